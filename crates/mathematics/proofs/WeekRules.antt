@@ -1,0 +1,210 @@
+-- What the rules 31, 32 and 34 say of a week's tables, as facts about numbers, both ways. Assumes nothing.
+use Prim.Native.Nat.{ℕ, _+_, _<_, _≤_}
+use mathlib.Core.Path.{_≡_, refl, _∙_}
+use mathlib.Core.Bool.{Bool, true, false, cond}
+use native.Mathlib.Omega.{arith}
+use native.Mathlib.Decide.{ℕ-discrete}
+use lib.Dec.{eqb, leb}
+use borrow.Author.Tests.{eqb-true, eqb-false, leb-true, eq-eqb, ne-eqb, le-leb}
+use Rattle.mathematics.specs.Below.{sumBelow, allBelow, implies, within}
+use Rattle.mathematics.specs.Week.{WeekTables, count, binary, markedOnce, rule31, rule32, rule34, Meets}
+use Rattle.mathematics.specs.Order.{Agree}
+use Rattle.mathematics.proofs.Below.{sum-ext, all-each, each-all}
+use Rattle.mathematics.proofs.Below.{and-both, and-three, and-four, both-and, implies-at, at-implies, within-at, at-within}
+use Rattle.mathematics.proofs.Sums.{bit-zero, all-equal, equal-all}
+
+pub record WeekFacts (N : ℕ) (x : WeekTables) : Type 0 where
+  pub assigned-bit : (i : ℕ) → i < N → x .assigned i ≤ 1
+  pub first-bit : (i : ℕ) → i < N → x .first i ≤ 1
+  pub last-bit : (i : ℕ) → i < N → x .last i ≤ 1
+  pub changeover-bit : (i : ℕ) → i < N → (j : ℕ) → j < N → x .changeover i j ≤ 1
+  pub one-first : sumBelow N (x .first) ≡ 1
+  pub one-last : sumBelow N (x .last) ≡ 1
+  pub into : (j : ℕ) → j < N → sumBelow N (λ i. x .changeover i j) + x .first j ≡ x .assigned j
+  pub out : (i : ℕ) → i < N → sumBelow N (λ j. x .changeover i j) + x .last i ≡ x .assigned i
+  pub absent : (i : ℕ) → i < N → x .assigned i ≡ 0 → x .position i ≡ 0
+  pub low : (i : ℕ) → i < N → x .assigned i ≤ x .position i
+  pub high : (i : ℕ) → i < N → x .position i ≤ count N x
+  pub rises : (i : ℕ) → i < N → (j : ℕ) → j < N → x .changeover i j ≡ 1 → x .position i + 1 ≤ x .position j
+
+-- ---- the parts of the rules, over any table
+-- one mark, on a product that is assigned
+abbrev pub OnceFacts : ℕ → (mark assigned : ℕ → ℕ) → Type 0
+OnceFacts N mark assigned = (sumBelow N mark ≡ 1) × ((i : ℕ) → i < N → mark i ≡ 1 → assigned i ≡ 1)
+
+module _ (N : ℕ) (mark assigned : ℕ → ℕ) where
+  once-facts : markedOnce N mark assigned ≡ true → OnceFacts N mark assigned
+  unfolding markedOnce
+  once-facts h =
+      let r = and-both (eqb (sumBelow N mark) 1) (allBelow N (λ i. implies (eqb (mark i) 1) (eqb (assigned i) 1))) h in (
+        eqb-true (sumBelow N mark) 1 (r .0),
+        λ i l e. eqb-true (assigned i) 1 (implies-at (eqb (mark i) 1) (eqb (assigned i) 1) (all-each N _ (r .1) i l) (eq-eqb (mark i) 1 e)),
+      )
+
+  facts-once : OnceFacts N mark assigned → markedOnce N mark assigned ≡ true
+  unfolding markedOnce
+  facts-once h =
+      both-and _ _ (eq-eqb (sumBelow N mark) 1 (h .0)) (each-all N _ (λ i l. at-implies (eqb (mark i) 1) (eqb (assigned i) 1)
+      (λ q. eq-eqb (assigned i) 1 (h .1 i l (eqb-true (mark i) 1 q)))))
+
+-- the positions of a product that is assigned, and of one that is not
+position-at : (e o n : ℕ) → cond (eqb e 0) (eqb o 0) (within 1 n o) ≡ true → e ≤ 1 → (e ≡ 0 → o ≡ 0) × (e ≤ o) × (o ≤ n)
+position-at e o n h b = go (eqb e 0) refl h
+  where
+    go : (t : Bool) → eqb e 0 ≡ t → cond t (eqb o 0) (within 1 n o) ≡ true → (e ≡ 0 → o ≡ 0) × (e ≤ o) × (o ≤ n)
+    go true q k = let z = eqb-true e 0 q in let y = eqb-true o 0 k in (λ x. y, omega arith, omega arith)
+    go false q k = let c = within-at 1 n o k in (λ x. absurd (eqb-false e 0 q x), omega (arith, c .0), c .1)
+
+at-position : (e o n : ℕ) → (e ≡ 0 → o ≡ 0) → e ≤ o → o ≤ n → cond (eqb e 0) (eqb o 0) (within 1 n o) ≡ true
+at-position e o n p q r = go (ℕ-discrete e 0)
+  where
+    go : Dec (e ≡ 0) → cond (eqb e 0) (eqb o 0) (within 1 n o) ≡ true
+    go (yes z) = rw (eq-eqb e 0 z) (eq-eqb o 0 (p z))
+    go (no z) = rw (ne-eqb e 0 z) (at-within 1 n o (omega arith) r)
+
+-- ---- from the tests to the facts
+module _ (N : ℕ) (x : WeekTables) where
+  pub binary-at : binary N x ≡ true → (i : ℕ) → i < N
+      → (x .assigned i ≤ 1) × (x .first i ≤ 1) × (x .last i ≤ 1) × ((j : ℕ) → j < N → x .changeover i j ≤ 1)
+  unfolding binary
+  binary-at h i l =
+      let r = and-four (leb (x .assigned i) 1) (leb (x .first i) 1) (leb (x .last i) 1) (allBelow N (λ j. leb (x .changeover i j) 1))
+      (all-each N _ h i l) in (
+        leb-true (x .assigned i) 1 (r .0),
+        leb-true (x .first i) 1 (r .1),
+        leb-true (x .last i) 1 (r .2),
+        λ j m. leb-true (x .changeover i j) 1 (all-each N (λ k. leb (x .changeover i k) 1) (r .3) j m),
+      )
+
+  pub at-binary : ((i : ℕ) → i < N
+      → (x .assigned i ≤ 1) × (x .first i ≤ 1) × (x .last i ≤ 1) × ((j : ℕ) → j < N → x .changeover i j ≤ 1)) → binary N x ≡ true
+  unfolding binary
+  at-binary h =
+      each-all N _ (λ i l. both-and _ _ (both-and _ _ (both-and _ _
+      (le-leb (x .assigned i) 1 (h i l .0))
+      (le-leb (x .first i) 1 (h i l .1)))
+      (le-leb (x .last i) 1 (h i l .2)))
+      (each-all N _ (λ j m. le-leb (x .changeover i j) 1 (h i l .3 j m))))
+
+  pub facts31 : rule31 N x ≡ true → OnceFacts N (x .first) (x .assigned) × OnceFacts N (x .last) (x .assigned)
+  unfolding rule31
+  facts31 h =
+      let r = and-both (markedOnce N (x .first) (x .assigned)) (markedOnce N (x .last) (x .assigned)) h in
+      (once-facts N (x .first) (x .assigned) (r .0), once-facts N (x .last) (x .assigned) (r .1))
+
+  facts32 : rule32 N x ≡ true
+      → ((j : ℕ) → j < N → sumBelow N (λ i. x .changeover i j) + x .first j ≡ x .assigned j)
+      × ((i : ℕ) → i < N → sumBelow N (λ j. x .changeover i j) + x .last i ≡ x .assigned i)
+  unfolding rule32
+  facts32 h =
+      let r = and-three (allBelow N (λ i. eqb (x .changeover i i) 0))
+      (allBelow N (λ j. eqb (sumBelow N (λ i. x .changeover i j) + x .first j) (x .assigned j)))
+      (allBelow N (λ i. eqb (sumBelow N (λ j. x .changeover i j) + x .last i) (x .assigned i))) h in (
+        all-equal N (λ j. sumBelow N (λ i. x .changeover i j) + x .first j) (x .assigned) (r .1),
+        all-equal N (λ i. sumBelow N (λ j. x .changeover i j) + x .last i) (x .assigned) (r .2),
+      )
+
+  -- the test of the positions of each product, and their rise along each changeover
+  facts34 : rule34 N x ≡ true
+      → ((i : ℕ) → i < N → cond (eqb (x .assigned i) 0) (eqb (x .position i) 0) (within 1 (count N x) (x .position i)) ≡ true)
+      × ((i : ℕ) → i < N → (j : ℕ) → j < N → x .changeover i j ≡ 1 → x .position i + 1 ≤ x .position j)
+  unfolding rule34
+  facts34 h =
+      let r = and-both (allBelow N (λ i. cond (eqb (x .assigned i) 0) (eqb (x .position i) 0) (within 1 (count N x) (x .position i))))
+      (allBelow N (λ i. allBelow N (λ j. implies (eqb (x .changeover i j) 1) (leb (x .position i + 1) (x .position j))))) h in (
+        all-each N _ (r .0),
+        λ i l j m e. leb-true (x .position i + 1) (x .position j)
+            (implies-at (eqb (x .changeover i j) 1) _ (all-each N _ (all-each N _ (r .1) i l) j m) (eq-eqb (x .changeover i j) 1 e)),
+      )
+
+  -- rule 34 alone refuses two products in a ring
+  pub no-ring : rule34 N x ≡ true → (i : ℕ) → i < N → (j : ℕ) → j < N → x .changeover i j ≡ 1 → x .changeover j i ≡ 1 → ⊥
+  no-ring h i l j m e f = let r = facts34 h .1 in omega (arith, r i l j m e, r j m i l f)
+
+  pub week-facts : Meets N x → WeekFacts N x
+  week-facts m =
+      let b = binary-at (m .is-binary) in
+      let f = facts31 (m .meets31) in
+      let z = facts32 (m .meets32) in
+      let o = facts34 (m .meets34) in
+      let at : (i : ℕ) → i < N → (x .assigned i ≡ 0 → x .position i ≡ 0) × (x .assigned i ≤ x .position i) × (x .position i ≤ count N x) =
+      λ i l. position-at (x .assigned i) (x .position i) (count N x) (o .0 i l) (b i l .0) in
+      record {
+        assigned-bit = λ i l. b i l .0;
+        first-bit = λ i l. b i l .1;
+        last-bit = λ i l. b i l .2;
+        changeover-bit = λ i l. b i l .3;
+        one-first = f .0 .0;
+        one-last = f .1 .0;
+        into = z .0;
+        out = z .1;
+        absent = λ i l. at i l .0;
+        low = λ i l. at i l .1;
+        high = λ i l. at i l .2;
+        rises = o .1;
+      }
+
+  -- ---- from the facts to the tests
+  module _ (w : WeekFacts N x) where
+    holds31 : rule31 N x ≡ true
+    unfolding rule31
+    holds31 =
+        both-and _ _
+        (facts-once N (x .first) (x .assigned) (w .one-first, λ i l e. omega (arith, w .into i l, w .assigned-bit i l)))
+        (facts-once N (x .last) (x .assigned) (w .one-last, λ i l e. omega (arith, w .out i l, w .assigned-bit i l)))
+
+    holds32 : rule32 N x ≡ true
+    unfolding rule32
+    holds32 =
+        both-and _ _ (both-and _ _
+        (equal-all N (λ i. x .changeover i i) (λ i. 0)
+        (λ i l. bit-zero (x .changeover i i) (w .changeover-bit i l i l) (λ e. omega (arith, w .rises i l i l e))))
+        (equal-all N (λ j. sumBelow N (λ i. x .changeover i j) + x .first j) (x .assigned) (w .into)))
+        (equal-all N (λ i. sumBelow N (λ j. x .changeover i j) + x .last i) (x .assigned) (w .out))
+
+    holds34 : rule34 N x ≡ true
+    unfolding rule34
+    holds34 =
+        both-and _ _
+        (each-all N _ (λ i l. at-position (x .assigned i) (x .position i) (count N x) (w .absent i l) (w .low i l) (w .high i l)))
+        (each-all N _ (λ i l. each-all N _ (λ j m. at-implies (eqb (x .changeover i j) 1) _
+        (λ e. le-leb (x .position i + 1) (x .position j) (w .rises i l j m (eqb-true (x .changeover i j) 1 e))))))
+
+    pub facts-meet : Meets N x
+    facts-meet =
+        record {
+          is-binary = at-binary (λ i l. (w .assigned-bit i l, w .first-bit i l, w .last-bit i l, w .changeover-bit i l));
+          meets31 = holds31;
+          meets32 = holds32;
+          meets34 = holds34;
+        }
+
+-- tables that agree below N share the facts
+pub facts-agree : (N : ℕ) (x y : WeekTables) → Agree N x y → WeekFacts N y → WeekFacts N x
+facts-agree N x y a w =
+    record {
+      assigned-bit = λ i l. omega (arith, a .assigned i l, w .assigned-bit i l);
+      first-bit = λ i l. omega (arith, a .first i l, w .first-bit i l);
+      last-bit = λ i l. omega (arith, a .last i l, w .last-bit i l);
+      changeover-bit = λ i l j m. omega (arith, a .changeover i l j m, w .changeover-bit i l j m);
+      one-first = sum-ext N (x .first) (y .first) (a .first) ∙ w .one-first;
+      one-last = sum-ext N (x .last) (y .last) (a .last) ∙ w .one-last;
+      into = λ j l. omega (
+        arith,
+        sum-ext N (λ i. x .changeover i j) (λ i. y .changeover i j) (λ i m. a .changeover i m j l),
+        w .into j l,
+        a .first j l,
+        a .assigned j l,
+      );
+      out = λ i l. omega (
+        arith,
+        sum-ext N (x .changeover i) (y .changeover i) (a .changeover i l),
+        w .out i l,
+        a .last i l,
+        a .assigned i l,
+      );
+      absent = λ i l e. omega (arith, w .absent i l (omega (arith, a .assigned i l)), a .position i l);
+      low = λ i l. omega (arith, w .low i l, a .assigned i l, a .position i l);
+      high = λ i l. omega (arith, w .high i l, a .position i l, sum-ext N (x .assigned) (y .assigned) (a .assigned));
+      rises = λ i l j m e. omega (arith, w .rises i l j m (omega (arith, a .changeover i l j m)), a .position i l, a .position j m);
+    }

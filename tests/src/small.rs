@@ -1,0 +1,39 @@
+//! The small plant: products A (0) and B (1), one customer, two weeks.
+
+use crate::machine;
+use crate::model::{Plan, Plant, Sizes, Slot, Slots, Storage};
+
+pub fn plant() -> Plant {
+    Plant {
+        sizes: Sizes { products: 2, customers: 1, weeks: 2 },
+        rates: vec![100, 50],
+        changeover_minutes: vec![0, 40, 30, 0],
+        changeover_cents: vec![0, 600, 500, 0],
+        demand: vec![400_000, 300_000, 100_000, 200_000],
+        prices: vec![10, 12],
+        backlog_costs: vec![2, 3],
+        inventory_costs: vec![1, 1],
+        storage: vec![Storage { least: 0, greatest: 2_000_000 }; 2],
+        opening_stock: vec![0, 0],
+        opening_owed: vec![0, 0],
+        shortest_run: 300,
+        week_minutes: 10_080,
+    }
+}
+
+pub fn slots() -> Slots {
+    Slots {
+        counts: vec![2, 2],
+        slots: vec![
+            Slot { product: 0, minutes: 5000 },
+            Slot { product: 1, minutes: 2000 },
+            Slot { product: 1, minutes: 3000 },
+            Slot { product: 0, minutes: 2000 },
+        ],
+        sales: vec![400_000, 300_000, 100_000, 150_000],
+    }
+}
+
+pub fn plan() -> Plan {
+    machine::run(&plant(), &slots()).expect("the small plant's run never stops")
+}

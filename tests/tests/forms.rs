@@ -1,0 +1,202 @@
+//! The reader of the file forms against the layout, row by row.
+
+use doxkarin_tests::forms::{read_plan, read_plant, read_slots};
+use doxkarin_tests::layout::Parts;
+use doxkarin_tests::model::{Kind, Plant, Refusal, Sizes, Storage};
+use doxkarin_tests::{samples, small};
+
+/// One kind of file: its first section, its right bodies, and the refusal of a
+/// file read with the small plant.
+struct Form {
+    kind: Kind,
+    first: u8,
+    bodies: Vec<Vec<u8>>,
+    wrong_contents: Refusal,
+    refusal: fn(&[u8]) -> Option<Refusal>,
+}
+
+fn forms() -> [Form; 3] {
+    [
+        Form {
+            kind: Kind::Plant,
+            first: 1,
+            bodies: small::plant().bodies(),
+            wrong_contents: 1,
+            refusal: |file| read_plant(file).err(),
+        },
+        Form {
+            kind: Kind::Plan,
+            first: 21,
+            bodies: small::plan().bodies(),
+            wrong_contents: 11,
+            refusal: |file| read_plan(&small::plant(), file).err(),
+        },
+        Form {
+            kind: Kind::Slots,
+            first: 41,
+            bodies: small::slots().bodies(),
+            wrong_contents: 21,
+            refusal: |file| read_slots(&small::plant(), file).err(),
+        },
+    ]
+}
+
+#[test]
+fn reading_undoes_encoding() {
+    let plant = small::plant();
+    assert_eq!(read_plant(&plant.encode()), Ok(plant.clone()));
+    let greatest = samples::greatest_plant();
+    assert_eq!(read_plant(&greatest.encode()), Ok(greatest));
+    let least = samples::least_plant(Sizes { products: 1, customers: 1, weeks: 1 });
+    assert_eq!(read_plant(&least.encode()), Ok(least));
+
+    let mut plan = small::plan();
+    assert_eq!(read_plan(&plant, &plan.encode()), Ok(plan.clone()));
+    plan.places.fill(255);
+    plan.minutes.fill(u16::MAX);
+    plan.grams.fill(u32::MAX);
+    plan.profit = -1;
+    assert_eq!(read_plan(&plant, &plan.encode()), Ok(plan));
+
+    let mut slots = small::slots();
+    assert_eq!(read_slots(&plant, &slots.encode()), Ok(slots.clone()));
+    slots.slots[0] = slots.slots[1];
+    slots.slots[1].minutes = u16::MAX;
+    slots.sales.fill(u32::MAX);
+    assert_eq!(read_slots(&plant, &slots.encode()), Ok(slots));
+}
+
+#[test]
+fn a_cut_file_lacks_contents_or_a_body() {
+    for form in forms() {
+        let parts = Parts::new(form.kind, form.first, &form.bodies);
+        let file = parts.bytes();
+        for length in 0..file.len() {
+            let misplaced = u8::from(length >= parts.contents_end());
+            let expected = Some(form.wrong_contents + misplaced);
+            assert_eq!((form.refusal)(&file[..length]), expected, "{} {length}", form.kind);
+        }
+    }
+}
+
+#[test]
+fn every_byte_of_the_contents_counts() {
+    for form in forms() {
+        let parts = Parts::new(form.kind, form.first, &form.bodies);
+        for place in 0..parts.contents_end() {
+            let mut file = parts.bytes();
+            file[place] ^= 128;
+            let is_place = place >= 2 && (place - 2) % 9 > 0;
+            let expected = Some(form.wrong_contents + u8::from(is_place));
+            assert_eq!((form.refusal)(&file), expected, "{} {place}", form.kind);
+        }
+    }
+}
+
+#[test]
+fn every_body_has_its_length() {
+    for form in forms() {
+        for section in 0..form.bodies.len() {
+            let expected = Some(match (form.kind, section) {
+                (Kind::Plant, 0) => 2,
+                (Kind::Plant, _) => 4,
+                (Kind::Plan, _) => 13,
+                (Kind::Slots, _) => 23,
+            });
+            let mut longer = form.bodies.clone();
+            longer[section].push(0);
+            let longer = Parts::new(form.kind, form.first, &longer).bytes();
+            assert_eq!((form.refusal)(&longer), expected, "{} {section}", form.kind);
+
+            let mut shorter = form.bodies.clone();
+            shorter[section].pop();
+            let shorter = Parts::new(form.kind, form.first, &shorter).bytes();
+            assert_eq!((form.refusal)(&shorter), expected, "{} {section}", form.kind);
+        }
+    }
+}
+
+#[test]
+fn the_first_broken_row_refuses() {
+    type Damage = fn(&mut [Vec<u8>]);
+    let damages: [&[(Refusal, Damage)]; 3] = [
+        &[
+            (5, |bodies| bodies[1].fill(0)),
+            (4, |bodies| bodies[2].push(0)),
+            (3, |bodies| bodies[0][0] = 0),
+        ],
+        &[(14, |bodies| bodies[0][0] = 2), (13, |bodies| bodies[10].push(0))],
+        &[(24, |bodies| bodies[1][0] = 2), (23, |bodies| bodies[2].push(0))],
+    ];
+    for (mut form, damages) in forms().into_iter().zip(damages) {
+        for (number, damage) in damages {
+            damage(&mut form.bodies);
+            let file = Parts::new(form.kind, form.first, &form.bodies).bytes();
+            assert_eq!((form.refusal)(&file), Some(*number));
+        }
+        let mut parts = Parts::new(form.kind, form.first, &form.bodies);
+        parts.bodies.push(0);
+        assert_eq!((form.refusal)(&parts.bytes()), Some(form.wrong_contents + 1));
+        parts.kind = 0;
+        assert_eq!((form.refusal)(&parts.bytes()), Some(form.wrong_contents));
+    }
+}
+
+#[test]
+fn every_mark_is_0_or_1() {
+    let plant = small::plant();
+    let right = small::plan().bodies();
+    for section in 0..5 {
+        for place in 0..right[section].len() {
+            for (mark, expected) in [(0, None), (1, None), (2, Some(14)), (255, Some(14))] {
+                let mut bodies = right.clone();
+                bodies[section][place] = mark;
+                let file = Parts::new(Kind::Plan, 21, &bodies).bytes();
+                assert_eq!(read_plan(&plant, &file).err(), expected, "{section} {place} {mark}");
+            }
+        }
+    }
+}
+
+#[test]
+fn every_plant_number_has_its_range() {
+    type Change = fn(&mut Plant, u32);
+    let greatest: [(u32, Change); 13] = [
+        (100_000, |plant, value| plant.rates[1] = value),
+        (10_080, |plant, value| plant.changeover_minutes[2] = value as u16),
+        (0, |plant, value| plant.changeover_minutes[0] = value as u16),
+        (1_000_000, |plant, value| plant.changeover_cents[1] = value),
+        (0, |plant, value| plant.changeover_cents[3] = value),
+        (100_000_000, |plant, value| plant.demand[3] = value),
+        (100_000, |plant, value| plant.prices[1] = value),
+        (100_000, |plant, value| plant.backlog_costs[1] = value),
+        (100_000, |plant, value| plant.inventory_costs[1] = value),
+        (4_000_000_000, |plant, value| {
+            plant.storage[1] = Storage { least: value, greatest: value }
+        }),
+        (4_000_000_000, |plant, value| plant.opening_stock[1] = value),
+        (100_000_000, |plant, value| plant.opening_owed[1] = value),
+        (10_080, |plant, value| plant.week_minutes = value as u16),
+    ];
+    let least: [(u32, Change); 3] = [
+        (1, |plant, value| plant.rates[0] = value),
+        (1, |plant, value| plant.shortest_run = value as u16),
+        (300, |plant, value| plant.week_minutes = value as u16),
+    ];
+    let number = |change: Change, value| {
+        let mut plant = small::plant();
+        change(&mut plant, value);
+        read_plant(&plant.encode()).err()
+    };
+    for (place, (value, change)) in greatest.into_iter().enumerate() {
+        assert_eq!(number(change, value), None, "greatest {place}");
+        assert_eq!(number(change, value + 1), Some(5), "greatest {place}");
+    }
+    for (place, (value, change)) in least.into_iter().enumerate() {
+        assert_eq!(number(change, value), None, "least {place}");
+        assert_eq!(number(change, value - 1), Some(5), "least {place}");
+    }
+    let limits = Storage { least: 1, greatest: 0 };
+    let plant = Plant { storage: vec![limits; 2], ..small::plant() };
+    assert_eq!(read_plant(&plant.encode()), Err(5));
+}

@@ -1,14 +1,24 @@
 -- Laws of lists joined end to end: their length, the place of each in the whole, and a list as the join of its parts. Assumes nothing.
-use Prim.Native.Nat.{ℕ, zero, suc, _+_, _*_, _<_, _≤_}
+use Prim.Native.Nat.{ℕ, zero, suc, _+_, _*_, _/_, _%_, _<_, _≤_}
 use mathlib.Core.Path.{_≡_, refl, sym, ap, _∙_}
 use mathlib.Core.List.{List, [], _∷_, _++_, append-assoc, append-nil}
 use native.Mathlib.Omega.{arith}
 use native.Mathlib.Decide.{ℕ-discrete}
-use native.Mathlib.Nat.{add-zero, add-suc}
+use native.Mathlib.Nat.{add-zero, add-suc, suc-mul, mul-le-mul-right, mul-add-div-right, mul-add-mod-self-right, div-eq-of-lt, mod-eq-of-lt}
 use lib.ListN.{length, take, drop, length-append}
 use lib.Seq.{take-add, drop-drop, take-append-seam, drop-append-seam, drop-at, take-at}
 use Rattle.mathematics.specs.Below.{sumBelow, joinBelow}
 use Rattle.mathematics.proofs.Below.{sum-ext, sum-const}
+
+-- row and column of a table's number, where it stands at i * n + j
+pub row-of : (i : ℕ) {j n : ℕ} → j < n → (i * n + j) / n ≡ i
+row-of i {j} {n} h = rw (mul-add-div-right {m = n} (omega arith) i j, div-eq-of-lt h, add-zero)
+
+pub column-of : (i : ℕ) {j n : ℕ} → j < n → (i * n + j) % n ≡ j
+column-of i {j} {n} h = rw (mul-add-mod-self-right i n j, mod-eq-of-lt h)
+
+pub table-below : {i j m n : ℕ} → i < m → j < n → i * n + j < m * n
+table-below {i} {j} {m} {n} h k = omega (arith, suc-mul i n, mul-le-mul-right n h)
 
 module _ {A : Type 0} where
   pub join-ext : (n : ℕ) (f g : ℕ → List A) → ((i : ℕ) → i < n → f i ≡ g i) → joinBelow n f ≡ joinBelow n g
@@ -55,3 +65,9 @@ module _ {A : Type 0} where
   join-rows m n f =
       join-ext m _ _ (λ i l. ap (λ (x : ℕ). joinBelow n (λ j. f (x + j))) (sym (sum-const i n)))
       ∙ (join-runs m (λ i. n) f ∙ ap (λ (x : ℕ). joinBelow x f) (sum-const m n))
+
+  -- the same, where each row's lists are given by row and column
+  pub join-table : (m n : ℕ) (f : ℕ → ℕ → List A) → joinBelow m (λ i. joinBelow n (f i)) ≡ joinBelow (m * n) (λ q. f (q / n) (q % n))
+  join-table m n f =
+      join-ext m _ _ (λ i l. join-ext n _ _ (λ j k. sym ((λ u. f (row-of i k u) (column-of i k u)))))
+      ∙ join-rows m n (λ q. f (q / n) (q % n))

@@ -1,0 +1,31 @@
+-- `plant_file::has_lengths` meets its contract. Assumes nothing.
+use borrow.Author.Needs.{needs}
+use mathlib.Core.Path.{_≡_}
+use Rattle.plant_file.proofs.has_lengths.Statement.{statement}
+use Rattle.plant_file.proofs.has_lengths.Tie as tie
+
+returns : tie.Need-returns
+returns c = cc
+
+pub has-lengths-spec : {M : Type 1} → statement M
+has-lengths-spec =
+    tie.close
+    (tie.spec
+    (λ c κs. search needs)
+    (λ c κs. search needs)
+    (λ c κs. search needs)
+    (λ c κs. search needs)
+    (λ c. search needs)
+    (λ c. search needs)
+    (λ c. search needs)
+    (λ c. search needs)
+    (λ c. search needs)
+    (λ c. search needs)
+    (λ c. search needs)
+    (λ c. search needs)
+    (λ c. search needs)
+    (λ c. search needs)
+    (λ c. search needs)
+    (λ c. search needs)
+    (λ c κs. search needs)
+    returns)

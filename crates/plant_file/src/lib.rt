@@ -1,0 +1,204 @@
+// Plant files, kind 1: the rows of refusal, and the numbers of each section.
+ghost use mathlib.Core.Path.{_≡_};
+ghost use mathlib.Core.Bool.{true};
+ghost use Prim.Native.Nat.{_+_, _*_, _≤_, _<_};
+ghost use lib.ListN.{length};
+ghost use Rattle.contents.specs.Contents.{sized};
+ghost use Rattle.sections.specs.Section.{Holds, Laid};
+ghost use Rattle.sections.specs.declared.Form.the-variants.{Good};
+ghost use Rattle.plant_file.specs.Plant.{plantOf};
+ghost use Rattle.plant_file.specs.Form.{shapeOf, laidOut, inLimits, plantLengths, lineInRange, marketInRange, storageInRange, openingInRange, timeInRange, plantInRange, plantForm};
+
+use contents::{cell_in, entry_in, is_headed, is_placed, is_sized};
+use numbers::{and, count, inside, wide};
+use sections::{Form, Shape, area, diagonal_zero, in_range, volume};
+
+// Row 2.
+fn is_laid_out(s: &[u8]) -> bool
+    requires { ⌜ 101 ≤ length (now s) ⌝ }
+    ensures { λ r. ⌜ r ≡ laidOut (now (s .entry)) ⌝ }
+{
+    let e = entry_in(s, 0);
+    and(is_placed(s, 11), e.length == 3)
+}
+
+// Section 1.
+fn shape_of(s: &[u8]) -> Shape
+    requires { ⌜ Holds (now s) 0 1 3 ⌝ }
+    ensures { λ r. ⌜ r ≡ shapeOf (now (s .entry)) ⌝ }
+{
+    let e = entry_in(s, 0);
+    let a = e.offset as usize;
+    let b = a + 1;
+    let c = a + 2;
+    Shape {
+        products: s[a],
+        customers: s[b],
+        weeks: s[c],
+    }
+}
+
+// Row 3.
+fn is_in_limits(f: Shape) -> bool
+    ensures { λ r. ⌜ r ≡ inLimits f ⌝ }
+{
+    and(
+        inside(1, 16, wide(f.products)),
+        and(
+            inside(1, 8, wide(f.customers)),
+            inside(1, 26, wide(f.weeks)),
+        ),
+    )
+}
+
+// Row 4.
+fn has_lengths(s: &[u8], f: Shape) -> bool
+    requires { ⌜ 101 ≤ length (now s) ⌝ }
+    ensures { λ r. ⌜ r ≡ sized (now (s .entry)) (plantLengths f) ⌝ }
+{
+    let n = wide(f.products);
+    let nn = area(f.products, f.products) as u64;
+    let cn = area(f.customers, f.products) as u64;
+    let cnw = volume(f.customers, f.products, f.weeks) as u64;
+    let lengths = [
+        3,
+        4 * n,
+        2 * nn,
+        4 * nn,
+        4 * cnw,
+        4 * cn,
+        4 * cn,
+        4 * n,
+        8 * n,
+        4 * n + 4 * cn,
+        4,
+    ];
+    is_sized(s, &lengths)
+}
+
+// Row 5, sections 2 to 4.
+fn is_line_in_range(s: &[u8], f: Shape) -> bool
+    requires { ⌜ Laid (now s) (plantLengths f) ⌝ }
+    ensures { λ r. ⌜ r ≡ lineInRange (now (s .entry)) f ⌝ }
+{
+    let n = count(f.products);
+    let nn = area(f.products, f.products);
+    and(
+        in_range(s, 1, 4, 0, n, 1, 100000),
+        and(
+            in_range(s, 2, 2, 0, nn, 0, 10080),
+            and(
+                diagonal_zero(s, 2, 2, n),
+                and(
+                    in_range(s, 3, 4, 0, nn, 0, 1000000),
+                    diagonal_zero(s, 3, 4, n),
+                ),
+            ),
+        ),
+    )
+}
+
+// Row 5, sections 5 to 8.
+fn is_market_in_range(s: &[u8], f: Shape) -> bool
+    requires { ⌜ Laid (now s) (plantLengths f) ⌝ }
+    ensures { λ r. ⌜ r ≡ marketInRange (now (s .entry)) f ⌝ }
+{
+    let n = count(f.products);
+    let cn = area(f.customers, f.products);
+    let cnw = volume(f.customers, f.products, f.weeks);
+    and(
+        in_range(s, 4, 4, 0, cnw, 0, 100000000),
+        and(
+            in_range(s, 5, 4, 0, cn, 0, 100000),
+            and(
+                in_range(s, 6, 4, 0, cn, 0, 100000),
+                in_range(s, 7, 4, 0, n, 0, 100000),
+            ),
+        ),
+    )
+}
+
+// Row 5, section 9.
+fn is_storage_in_range(s: &[u8], n: usize) -> bool
+    requires { ⌜ Holds (now s) 8 4 (2 * n) × (n < 256) ⌝ }
+    ensures { λ r. ⌜ r ≡ storageInRange (now (s .entry)) n ⌝ }
+{
+    let mut ok = true;
+    let mut i = 0;
+    while i < n {
+        let least = cell_in(s, 8, 4, 2 * i);
+        let greatest = cell_in(s, 8, 4, 2 * i + 1);
+        ok = and(
+            ok,
+            and(least <= greatest, greatest <= 4000000000),
+        );
+        i += 1;
+    }
+    ok
+}
+
+// Row 5, section 10.
+fn is_opening_in_range(s: &[u8], f: Shape) -> bool
+    requires { ⌜ Laid (now s) (plantLengths f) ⌝ }
+    ensures { λ r. ⌜ r ≡ openingInRange (now (s .entry)) f ⌝ }
+{
+    let n = count(f.products);
+    let cn = area(f.customers, f.products);
+    and(
+        in_range(s, 9, 4, 0, n, 0, 4000000000),
+        in_range(s, 9, 4, n, cn, 0, 100000000),
+    )
+}
+
+// Row 5, section 11.
+fn is_time_in_range(s: &[u8]) -> bool
+    requires { ⌜ Holds (now s) 10 2 2 ⌝ }
+    ensures { λ r. ⌜ r ≡ timeInRange (now (s .entry)) ⌝ }
+{
+    let shortest = cell_in(s, 10, 2, 0);
+    let week = cell_in(s, 10, 2, 1);
+    and(inside(1, week, shortest), week <= 10080)
+}
+
+// Row 5.
+fn is_in_range(s: &[u8], f: Shape) -> bool
+    requires { ⌜ Laid (now s) (plantLengths f) ⌝ }
+    ensures { λ r. ⌜ r ≡ plantInRange (now (s .entry)) f ⌝ }
+{
+    and(
+        is_line_in_range(s, f),
+        and(
+            is_market_in_range(s, f),
+            and(
+                is_storage_in_range(s, count(f.products)),
+                and(
+                    is_opening_in_range(s, f),
+                    is_time_in_range(s),
+                ),
+            ),
+        ),
+    )
+}
+
+// Rows 1 to 5: the plant's shape, or the number of the first row that turns it down.
+pub fn plant_form(s: &[u8]) -> Form
+    ensures { λ r. ⌜ r ≡ plantForm (now (s .entry)) ⌝ }
+{
+    if !is_headed(s, 1, 1, 11) {
+        return Form::Refused(1);
+    }
+    if !is_laid_out(s) {
+        return Form::Refused(2);
+    }
+    let f = shape_of(s);
+    if !is_in_limits(f) {
+        return Form::Refused(3);
+    }
+    if !has_lengths(s, f) {
+        return Form::Refused(4);
+    }
+    if !is_in_range(s, f) {
+        return Form::Refused(5);
+    }
+    Form::Good(f)
+}

@@ -1,0 +1,3 @@
+pub mod Slots
+pub mod Form
+pub mod File

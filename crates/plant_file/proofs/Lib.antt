@@ -1,3 +1,4 @@
 pub mod Cells
 pub mod PlantReads
 pub mod PlantInRange
+pub mod PlantAccess

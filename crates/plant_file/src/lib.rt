@@ -11,7 +11,7 @@ ghost use Rattle.plant_file.specs.Form.{shapeOf, laidOut, inLimits, plan
 
 use contents::{cell_in, entry_in, is_headed, is_placed, is_sized};
 use numbers::{and, count, inside, wide};
-use sections::{Form, Shape, area, diagonal_zero, in_range, volume};
+use sections::{Form, Shape, area, diagonal_zero, in_range, index2, index3, volume};
 
 // Row 2.
 fn is_laid_out(s: &[u8]) -> bool
@@ -201,4 +201,116 @@ pub fn plant_form(s: &[u8]) -> Form
         return Form::Refused(5);
     }
     Form::Good(f)
+}
+
+// ---- The numbers of a good plant file, section by section. A caller shows that the file is good and the indices are in reach.
+
+// Grams a minute of a product.
+pub fn rate(s: &[u8], f: Shape, product: usize) -> u64
+    requires { ⌜ (plantForm (now s) ≡ Good f) × (product < f .products) ⌝ }
+    ensures { λ r. ⌜ (r ≡ plantOf f (now (s .entry)) .line .rate product) × (1 ≤ r) × (r ≤ 100000) ⌝ }
+{
+    cell_in(s, 1, 4, product)
+}
+
+// Changeover minutes from one product to another.
+pub fn changeover_minutes(s: &[u8], f: Shape, from: usize, to: usize) -> u64
+    requires { ⌜ (plantForm (now s) ≡ Good f) × (from < f .products) × (to < f .products) ⌝ }
+    ensures { λ r. ⌜ (r ≡ plantOf f (now (s .entry)) .line .changeoverMinutes from to) × (r ≤ 10080) ⌝ }
+{
+    let at = index2(from, f.products, to, f.products);
+    cell_in(s, 2, 2, at)
+}
+
+// Changeover cents from one product to another.
+pub fn changeover_cents(s: &[u8], f: Shape, from: usize, to: usize) -> u64
+    requires { ⌜ (plantForm (now s) ≡ Good f) × (from < f .products) × (to < f .products) ⌝ }
+    ensures { λ r. ⌜ (r ≡ plantOf f (now (s .entry)) .line .changeoverCents from to) × (r ≤ 1000000) ⌝ }
+{
+    let at = index2(from, f.products, to, f.products);
+    cell_in(s, 3, 4, at)
+}
+
+// Grams that a customer wants of a product in a week.
+pub fn demand(s: &[u8], f: Shape, customer: usize, product: usize, week: usize) -> u64
+    requires { ⌜ (plantForm (now s) ≡ Good f) × (customer < f .customers) × (product < f .products) × (week < f .weeks) ⌝ }
+    ensures { λ r. ⌜ (r ≡ plantOf f (now (s .entry)) .demand customer product week) × (r ≤ 100000000) ⌝ }
+{
+    let at = index3(customer, f.customers, product, f.products, week, f.weeks);
+    cell_in(s, 4, 4, at)
+}
+
+// Cents a kilogram that a customer pays for a product.
+pub fn price(s: &[u8], f: Shape, customer: usize, product: usize) -> u64
+    requires { ⌜ (plantForm (now s) ≡ Good f) × (customer < f .customers) × (product < f .products) ⌝ }
+    ensures { λ r. ⌜ (r ≡ plantOf f (now (s .entry)) .price customer product) × (r ≤ 100000) ⌝ }
+{
+    let at = index2(customer, f.customers, product, f.products);
+    cell_in(s, 5, 4, at)
+}
+
+// Cents a kilogram and week that a backlog costs.
+pub fn backlog_cost(s: &[u8], f: Shape, customer: usize, product: usize) -> u64
+    requires { ⌜ (plantForm (now s) ≡ Good f) × (customer < f .customers) × (product < f .products) ⌝ }
+    ensures { λ r. ⌜ (r ≡ plantOf f (now (s .entry)) .backlogCost customer product) × (r ≤ 100000) ⌝ }
+{
+    let at = index2(customer, f.customers, product, f.products);
+    cell_in(s, 6, 4, at)
+}
+
+// Cents a kilogram and week that inventory costs.
+pub fn inventory_cost(s: &[u8], f: Shape, product: usize) -> u64
+    requires { ⌜ (plantForm (now s) ≡ Good f) × (product < f .products) ⌝ }
+    ensures { λ r. ⌜ (r ≡ plantOf f (now (s .entry)) .inventoryCost product) × (r ≤ 100000) ⌝ }
+{
+    cell_in(s, 7, 4, product)
+}
+
+// Grams in stock before the first week.
+pub fn opening_inventory(s: &[u8], f: Shape, product: usize) -> u64
+    requires { ⌜ (plantForm (now s) ≡ Good f) × (product < f .products) ⌝ }
+    ensures { λ r. ⌜ (r ≡ plantOf f (now (s .entry)) .openingInventory product) × (r ≤ 4000000000) ⌝ }
+{
+    cell_in(s, 9, 4, product)
+}
+
+// The least grams of a product that may stand in storage after a week.
+pub fn least_storage(s: &[u8], f: Shape, product: usize) -> u64
+    requires { ⌜ (plantForm (now s) ≡ Good f) × (product < f .products) ⌝ }
+    ensures { λ r. ⌜ (r ≡ plantOf f (now (s .entry)) .leastStorage product) × (r ≤ 4000000000) ⌝ }
+{
+    cell_in(s, 8, 4, 2 * product)
+}
+
+// The greatest.
+pub fn greatest_storage(s: &[u8], f: Shape, product: usize) -> u64
+    requires { ⌜ (plantForm (now s) ≡ Good f) × (product < f .products) ⌝ }
+    ensures { λ r. ⌜ (r ≡ plantOf f (now (s .entry)) .greatestStorage product) × (r ≤ 4000000000) ⌝ }
+{
+    cell_in(s, 8, 4, 2 * product + 1)
+}
+
+// Grams of a product that a customer is owed before the first week.
+pub fn opening_backlog(s: &[u8], f: Shape, customer: usize, product: usize) -> u64
+    requires { ⌜ (plantForm (now s) ≡ Good f) × (customer < f .customers) × (product < f .products) ⌝ }
+    ensures { λ r. ⌜ (r ≡ plantOf f (now (s .entry)) .openingBacklog customer product) × (r ≤ 100000000) ⌝ }
+{
+    let at = index2(customer, f.customers, product, f.products);
+    cell_in(s, 9, 4, count(f.products) + at)
+}
+
+// Minutes of the shortest run.
+pub fn shortest_run(s: &[u8], f: Shape) -> u64
+    requires { ⌜ plantForm (now s) ≡ Good f ⌝ }
+    ensures { λ r. ⌜ (r ≡ plantOf f (now (s .entry)) .shortestRun) × (1 ≤ r) × (r ≤ 10080) ⌝ }
+{
+    cell_in(s, 10, 2, 0)
+}
+
+// Minutes per week.
+pub fn week_minutes(s: &[u8], f: Shape) -> u64
+    requires { ⌜ plantForm (now s) ≡ Good f ⌝ }
+    ensures { λ r. ⌜ (r ≡ plantOf f (now (s .entry)) .weekMinutes) × (r ≤ 10080) ⌝ }
+{
+    cell_in(s, 10, 2, 1)
 }

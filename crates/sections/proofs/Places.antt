@@ -2,7 +2,7 @@
 use Prim.Native.Nat.{ℕ, _+_, _*_, _≤_, _<_}
 use mathlib.Core.Path.{_≡_, ap, _∙_}
 use native.Mathlib.Omega.{arith}
-use native.Mathlib.Nat.{mul-le-mul-left}
+use native.Mathlib.Nat.{mul-le-mul-left, mul-le-mul}
 use Rattle.mathematics.proofs.Join.{table-below}
 use Rattle.numbers.proofs.Number.{room, step}
 
@@ -23,3 +23,7 @@ diagonal-room k {j} {n} h = room k {i = j * n + j} {m = n * n} (table-below h h)
 -- a number below 256 is at most 255
 pub byte-most : {a : ℕ} → a < 256 → a ≤ 255
 byte-most h = omega arith
+
+-- where a number stands in a table whose sides are bounded
+pub table-small : {i j m n : ℕ} (a b : ℕ) → i < m → j < n → m ≤ a → n ≤ b → i * n + j < a * b
+table-small {i} {j} {m} {n} a b h k p q = omega (arith, table-below h k, mul-le-mul p q)

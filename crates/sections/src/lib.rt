@@ -33,6 +33,22 @@ pub fn volume(a: u8, b: u8, c: u8) -> usize
     area(a, b) * count(c)
 }
 
+// Where row i, column j stands in a table of m by n.
+pub fn index2(i: usize, m: u8, j: usize, n: u8) -> usize
+    requires { ⌜ (i < m) × (j < n) ⌝ }
+    ensures { λ r. ⌜ (r ≡ i * n + j) × (r < m * n) × (r < 65025) ⌝ }
+{
+    i * count(n) + j
+}
+
+// Where h, i, j stands in a table of l by m by n.
+pub fn index3(h: usize, l: u8, i: usize, m: u8, j: usize, n: u8) -> usize
+    requires { ⌜ (h < l) × (i < m) × (j < n) ⌝ }
+    ensures { λ r. ⌜ (r ≡ (h * m + i) * n + j) × (r < l * m * n) × (r < 16581375) ⌝ }
+{
+    index2(h, l, i, m) * count(n) + j
+}
+
 // Whether the numbers `from` to `from + m - 1` of section i, of k bytes each, are from lo to hi.
 pub fn in_range(s: &[u8], i: usize, k: usize, from: usize, m: usize, lo: u64, hi: u64) -> bool
     requires { ⌜ Holds (now s) i k (from + m) ⌝ }

@@ -1,0 +1,4 @@
+pub mod Lengths
+pub mod Flat
+pub mod PlanReads
+pub mod Access

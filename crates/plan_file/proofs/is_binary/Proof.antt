@@ -1,0 +1,45 @@
+-- `plan_file::is_binary` meets its contract. Assumes nothing.
+use borrow.Author.Needs.{needs}
+use native.Mathlib.Omega.{arith}
+use mathlib.Core.Path.{refl}
+use Rattle.sections.proofs.Rows.{width1}
+use Rattle.plan_file.specs.Form.{binary}
+use Rattle.plan_file.proofs.Lengths.{holds}
+use Rattle.plan_file.proofs.is_binary.Statement.{statement}
+use Rattle.plan_file.proofs.is_binary.Tie as tie
+
+returns : tie.Need-returns
+unfolding binary
+returns c =
+    let k = c .before .before .before .before in
+    let m = k .before .before .before .before .before in
+    rw (
+      c .and4 .ensures,
+      c .before .and3 .ensures,
+      c .before .before .and2 .ensures,
+      c .before .before .before .and .ensures,
+      k .in-range5 .ensures,
+      k .before .in-range4 .ensures,
+      k .before .before .in-range3 .ensures,
+      k .before .before .before .in-range2 .ensures,
+      k .before .before .before .before .in-range .ensures,
+      m .pair-cells .ensures .0,
+      m .before .week-cells .ensures .0,
+    )
+
+pub is-binary-spec : {M : Type 1} → statement M
+is-binary-spec =
+    tie.close
+    (tie.spec
+    (λ c κs. search needs)
+    (λ c κs. search needs)
+    (λ c κs. holds _ (c .before .before .before .pre) 0 (omega arith) width1 refl (c .before .week-cells .ensures .0))
+    (λ c κs. let k = c .before in holds _ (k .before .before .before .pre) 1 (omega arith) width1 refl (k .before .week-cells .ensures .0))
+    (λ c κs. let k = c .before .before in holds _ (k .before .before .before .pre) 2 (omega arith) width1 refl (k .before .week-cells .ensures .0))
+    (λ c κs. let k = c .before .before .before in holds _ (k .before .before .before .pre) 3 (omega arith) width1 refl (k .pair-cells .ensures .0))
+    (λ c κs. let k = c .before .before .before .before in holds _ (k .before .before .before .pre) 4 (omega arith) width1 refl (k .pair-cells .ensures .0))
+    (λ c κs. search needs)
+    (λ c κs. search needs)
+    (λ c κs. search needs)
+    (λ c κs. search needs)
+    returns)

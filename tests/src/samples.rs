@@ -8,9 +8,6 @@ use crate::layout::Parts;
 use crate::model::{Kind, Plant, Refusal, Sizes, Slot, Storage};
 use crate::small;
 
-/// The name of the file that lists the samples.
-pub const EXPECTED: &str = "expected.txt";
-
 #[derive(Clone, Debug, PartialEq, Eq)]
 pub struct Sample {
     pub name: String,
@@ -24,7 +21,16 @@ pub fn all() -> Vec<Sample> {
     [plants(), plans(), slots()].concat()
 }
 
-/// The text of the list: name and number, a line for each sample.
+/// The arguments of `formcheck`: each sample's name, a line each.
+pub fn arguments(samples: &[Sample]) -> String {
+    let mut text = String::new();
+    for sample in samples {
+        writeln!(text, "{}", sample.name).expect("a string takes any text");
+    }
+    text
+}
+
+/// What `formcheck` prints of them: name and number, a line for each sample.
 pub fn expected(samples: &[Sample]) -> String {
     let mut text = String::new();
     for sample in samples {

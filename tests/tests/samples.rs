@@ -6,12 +6,17 @@ use std::path::{Path, PathBuf};
 use doxkarin_tests::model::Refusal;
 use doxkarin_tests::{forms, samples, small};
 
-fn data() -> PathBuf {
-    Path::new(env!("CARGO_MANIFEST_DIR")).join("../crates/formcheck/data")
+/// The folder of the program that reads them.
+fn program() -> PathBuf {
+    Path::new(env!("CARGO_MANIFEST_DIR")).join("../crates/formcheck")
 }
 
 fn read(name: &str) -> Vec<u8> {
-    fs::read(data().join(name)).unwrap_or_else(|error| panic!("{name}: {error}"))
+    fs::read(program().join("data").join(name)).unwrap_or_else(|error| panic!("{name}: {error}"))
+}
+
+fn read_text(name: &str) -> String {
+    fs::read_to_string(program().join(name)).unwrap_or_else(|error| panic!("{name}: {error}"))
 }
 
 /// The number that the forms give a file of this name.
@@ -31,9 +36,8 @@ fn the_folder_holds_the_samples() {
     let samples = samples::all();
 
     let mut made: Vec<String> = samples.iter().map(|sample| sample.name.clone()).collect();
-    made.push(samples::EXPECTED.to_string());
     made.sort();
-    let mut found: Vec<String> = fs::read_dir(data())
+    let mut found: Vec<String> = fs::read_dir(program().join("data"))
         .expect("the data folder")
         .map(|entry| entry.expect("a folder entry").file_name().into_string().expect("a name"))
         .collect();
@@ -43,14 +47,13 @@ fn the_folder_holds_the_samples() {
     for sample in &samples {
         assert!(read(&sample.name) == sample.bytes, "{} differs", sample.name);
     }
-    let list = String::from_utf8(read(samples::EXPECTED)).expect("a list in UTF-8");
-    assert_eq!(list, samples::expected(&samples));
+    assert_eq!(read_text("args"), samples::arguments(&samples));
+    assert_eq!(read_text("stdout"), samples::expected(&samples));
 }
 
 #[test]
 fn the_forms_give_the_expected_numbers() {
-    let list = String::from_utf8(read(samples::EXPECTED)).expect("a list in UTF-8");
-    for line in list.lines() {
+    for line in read_text("stdout").lines() {
         let (name, expected) = line.split_once(' ').expect("a name and a number");
         assert_eq!(number(name, &read(name)).to_string(), expected, "{name}");
     }

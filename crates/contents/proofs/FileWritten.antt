@@ -30,10 +30,10 @@ module _ (kind first : ℕ) (bodies : List (List ℕ)) where
   abbrev count : ℕ
   count = length bodies
 
-  listed : length L ≡ count
+  pub listed : length L ≡ count
   listed = length-map bodies length
 
-  contents-length : length (contentsBytes kind first L) ≡ 2 + 9 * count
+  pub contents-length : length (contentsBytes kind first L) ≡ 2 + 9 * count
   unfolding contentsBytes
   contents-length = omega (arith, entries-length first L (length L), listed)
 

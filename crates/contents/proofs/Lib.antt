@@ -2,3 +2,4 @@ pub mod Entries
 pub mod Facts
 pub mod FileLayout
 pub mod FileWritten
+pub mod FileStored

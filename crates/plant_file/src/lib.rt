@@ -8,10 +8,23 @@ ghost use Rattle.sections.specs.Section.{Holds, Laid};
 ghost use Rattle.sections.specs.declared.Form.the-variants.{Good};
 ghost use Rattle.plant_file.specs.Plant.{plantOf};
 ghost use Rattle.plant_file.specs.Form.{shapeOf, laidOut, inLimits, plantLengths, lineInRange, marketInRange, storageInRange, openingInRange, timeInRange, plantInRange, plantForm};
-
-use contents::{cell_in, entry_in, is_headed, is_placed, is_sized};
-use numbers::{and, count, inside, wide};
-use sections::{Form, Shape, area, diagonal_zero, in_range, index2, index3, volume};
+use contents::cell_in;
+use contents::entry_in;
+use contents::is_headed;
+use contents::is_placed;
+use contents::is_sized;
+use numbers::and;
+use numbers::count;
+use numbers::inside;
+use numbers::wide;
+use sections::Form;
+use sections::Shape;
+use sections::area;
+use sections::diagonal_zero;
+use sections::in_range;
+use sections::index2;
+use sections::index3;
+use sections::volume;
 
 // Row 2.
 fn is_laid_out(s: &[u8]) -> bool
@@ -128,10 +141,7 @@ fn is_storage_in_range(s: &[u8], n: usize) -> bool
     while i < n {
         let least = cell_in(s, 8, 4, 2 * i);
         let greatest = cell_in(s, 8, 4, 2 * i + 1);
-        ok = and(
-            ok,
-            and(least <= greatest, greatest <= 4000000000),
-        );
+        ok = and(ok, and(least <= greatest, greatest <= 4000000000));
         i += 1;
     }
     ok
@@ -171,10 +181,7 @@ fn is_in_range(s: &[u8], f: Shape) -> bool
             is_market_in_range(s, f),
             and(
                 is_storage_in_range(s, count(f.products)),
-                and(
-                    is_opening_in_range(s, f),
-                    is_time_in_range(s),
-                ),
+                and(is_opening_in_range(s, f), is_time_in_range(s)),
             ),
         ),
     )

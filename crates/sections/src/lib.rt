@@ -2,9 +2,11 @@
 ghost use mathlib.Core.Path.{_≡_};
 ghost use Prim.Native.Nat.{_+_, _*_, _≤_, _<_};
 ghost use Rattle.sections.specs.Section.{inRange, diagonalZero, Holds};
-
 use contents::entry_in;
-use numbers::{and, count, inside, read};
+use numbers::and;
+use numbers::count;
+use numbers::inside;
+use numbers::read;
 
 // N, C and W of a plant: its counts of products, customers and weeks.
 pub struct Shape {

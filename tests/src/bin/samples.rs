@@ -1,4 +1,4 @@
-//! Writes the sample files and their list into a folder.
+//! Writes the sample files into the folder of the program `formcheck`: the files, its arguments, and what it has to print.
 
 use std::path::Path;
 use std::process::ExitCode;
@@ -23,9 +23,11 @@ fn main() -> ExitCode {
 
 fn write(folder: &Path) -> io::Result<()> {
     let samples = samples::all();
-    fs::create_dir_all(folder)?;
+    let data = folder.join("data");
+    fs::create_dir_all(&data)?;
     for sample in &samples {
-        fs::write(folder.join(&sample.name), &sample.bytes)?;
+        fs::write(data.join(&sample.name), &sample.bytes)?;
     }
-    fs::write(folder.join(samples::EXPECTED), samples::expected(&samples))
+    fs::write(folder.join("args"), samples::arguments(&samples))?;
+    fs::write(folder.join("stdout"), samples::expected(&samples))
 }

@@ -1,0 +1,69 @@
+// Prints what the rows of refusal say of each file that its arguments name: the name, a space, and 0 where the file is good or the
+// number of its refusal. The first letters of a name tell the kind of file. Plan and slot files are tried for the plant in plant.bin.
+use libc::STDOUT_FILENO;
+use plan_file::plan_form;
+use plant_file::plant_form;
+use sections::Form;
+use sections::Shape;
+use slot_file::slot_form;
+ghost use Rattle.io.specs.Counts.{Counts};
+
+// Puts the start of a file at the start of buf, and answers how many bytes. One that cannot be read counts as empty.
+fn read_file(path: &[u8], buf: &mut [u8]) -> usize
+    ensures { λ r. ⌜ Counts r (now (buf .exit)) ⌝ }
+{
+    let fd = os::open_read(path);
+    if fd < 0 {
+        return 0;
+    }
+    let got = io::read_full(fd, buf);
+    libc::close(fd);
+    got
+}
+
+fn number(form: Form) -> u64 {
+    match form {
+        Form::Good(_) => 0,
+        Form::Refused(n) => n as u64,
+    }
+}
+
+// The rows for the kind of file that a name tells: plan-.., slots-.., and plant-.. for any other.
+fn answer(name: &[u8], file: &[u8], plant: Shape) -> u64 {
+    if name.len() < 5 {
+        return number(plant_form(file));
+    }
+    if name[0] == b's' {
+        return number(slot_form(file, plant));
+    }
+    if name[4] == b't' {
+        return number(plant_form(file));
+    }
+    number(plan_form(file, plant))
+}
+
+fn report(i: usize, plant: Shape) {
+    let mut name = io::buffer();
+    let n = os::arg(i, &mut name);
+    let mut file = io::large_buffer();
+    let m = read_file(&name[..n], &mut file);
+    io::write_all(STDOUT_FILENO, &name[..n]);
+    io::write_all(STDOUT_FILENO, b" ");
+    io::print_decimal(STDOUT_FILENO, answer(&name[..n], &file[..m], plant));
+    io::write_all(STDOUT_FILENO, b"\n");
+}
+
+fn main() {
+    let mut file = io::large_buffer();
+    let n = read_file(b"plant.bin", &mut file);
+    match plant_form(&file[..n]) {
+        Form::Good(plant) => {
+            for i in 1..os::arg_count() {
+                report(i, plant);
+            }
+        }
+        Form::Refused(_) => {
+            io::write_all(STDOUT_FILENO, b"plant.bin is no plant\n");
+        }
+    }
+}

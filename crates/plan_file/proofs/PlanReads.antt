@@ -1,10 +1,11 @@
 -- WHAT A GOOD PLAN FILE HOLDS: it has passed each row, its bodies lie where they should, and its numbers fit. Assumes nothing.
-use Prim.Native.Nat.{ℕ, _+_, _*_, _^_, _≤_, _<_}
-use mathlib.Core.Path.{_≡_, sym}
-use mathlib.Core.Bool.{Bool, true}
+use Prim.Native.Nat.{ℕ, _+_, _*_, _^_, _<_}
+use mathlib.Core.Path.{_≡_}
+use mathlib.Core.Bool.{true}
 use mathlib.Core.List.{List}
 use native.Mathlib.Omega.{arith}
-use Rattle.mathematics.proofs.Below.{and-both, both-and}
+use native.Mathlib.Nat.{zero-add}
+use Rattle.mathematics.proofs.Below.{and-both, both-and, each-all, at-within}
 use Rattle.mathematics.proofs.Join.{table-below}
 use Rattle.numbers.specs.Number.{Bytes}
 use Rattle.numbers.proofs.Number.{number-below}
@@ -13,7 +14,6 @@ use Rattle.contents.specs.Contents.{cell, offset, headed, placed, sized}
 use Rattle.contents.proofs.Facts.{Headed, headed-facts}
 use Rattle.sections.specs.Section.{inRange, Laid}
 use Rattle.sections.specs.declared.Shape.{Shape}
-use Rattle.sections.specs.declared.Form.{Form}
 use Rattle.sections.specs.declared.Form.the-variants.{Good}
 use Rattle.sections.proofs.Rows.{row-good}
 use Rattle.sections.proofs.Tables.{range-first, cube-below}
@@ -72,12 +72,16 @@ module _ (f : Shape) (s : List ℕ) {g : Shape} (h : planForm f s ≡ Good g) wh
   plan-shape = let e = rows .4 in cc
 
 -- ---- every number has its range
-cell-below : (k : ℕ) (s : List ℕ) (i j : ℕ) → Bytes s → cell k s i j < 256 ^ k
+pub cell-below : (k : ℕ) (s : List ℕ) (i j : ℕ) → Bytes s → cell k s i j < 256 ^ k
 unfolding cell
 cell-below k s i j b = number-below k s (offset s i + k * j) b
 
-bit : (s : List ℕ) (i m : ℕ) → inRange 1 s i 0 m 0 1 ≡ true → {j : ℕ} → j < m → cell 1 s i j < 2
-bit s i m h {j} l = omega (arith, range-first 1 s i m 0 1 h j l .1)
+pub bit-below : (s : List ℕ) (i m : ℕ) → inRange 1 s i 0 m 0 1 ≡ true → {j : ℕ} → j < m → cell 1 s i j < 2
+bit-below s i m h {j} l = omega (arith, range-first 1 s i m 0 1 h j l .1)
+
+pub bits-range : (s : List ℕ) (i m : ℕ) → ((j : ℕ) → j < m → cell 1 s i j < 2) → inRange 1 s i 0 m 0 1 ≡ true
+unfolding inRange
+bits-range s i m h = each-all m _ (λ j l. at-within 0 1 (cell 1 s i (0 + j)) (omega arith) (rw zero-add (omega (arith, h j l))))
 
 pub plan-fits : (f : Shape) (s : List ℕ) → Bytes s → planForm f s ≡ Good f → PlanFits f (planOf f s)
 unfolding planOf linePlanOf
@@ -85,11 +89,11 @@ plan-fits f s b h =
     let z = plan-good f s h .bits in
     record {
       line = record {
-        assigned = λ w i p q. bit s 0 _ (z .assigned) (table-below p q);
-        first = λ w i p q. bit s 1 _ (z .first) (table-below p q);
-        last = λ w i p q. bit s 2 _ (z .last) (table-below p q);
-        changeover = λ w i j p q r. bit s 3 _ (z .changeover) (cube-below p q r);
-        weekChangeover = λ w i j p q r. bit s 4 _ (z .weekChangeover) (cube-below p q r);
+        assigned = λ w i p q. bit-below s 0 _ (z .assigned) (table-below p q);
+        first = λ w i p q. bit-below s 1 _ (z .first) (table-below p q);
+        last = λ w i p q. bit-below s 2 _ (z .last) (table-below p q);
+        changeover = λ w i j p q r. bit-below s 3 _ (z .changeover) (cube-below p q r);
+        weekChangeover = λ w i j p q r. bit-below s 4 _ (z .weekChangeover) (cube-below p q r);
         position = λ w i p q. cell-below 1 s 5 _ b;
         minutes = λ w i p q. cell-below 2 s 6 _ b;
       };

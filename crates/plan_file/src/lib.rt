@@ -10,47 +10,27 @@ ghost use Rattle.sections.specs.declared.Form.the-variants.{Good};
 ghost use Rattle.plan_file.specs.Plan.{planOf};
 ghost use Rattle.plan_file.specs.Form.{planLengths, binary, planForm};
 use contents::cell_in;
-use contents::entry_in;
 use contents::is_headed;
 use contents::is_placed;
 use contents::is_sized;
 use numbers::and;
-use numbers::count;
-use numbers::read8;
 use numbers::signed;
 use numbers::write_all;
 use sections::Form;
 use sections::Shape;
+use sections::area;
 use sections::in_range;
-
-// How many numbers a table by week and product has.
-fn week_cells(f: Shape) -> usize
-    ensures { λ r. ⌜ (r ≡ f .weeks * f .products) × (r ≤ 65025) ⌝ }
-{
-    count(f.weeks) * count(f.products)
-}
-
-// How many numbers a table by week and two products has.
-fn pair_cells(f: Shape) -> usize
-    ensures { λ r. ⌜ (r ≡ f .weeks * f .products * f .products) × (r ≤ 16581375) ⌝ }
-{
-    week_cells(f) * count(f.products)
-}
-
-// How many numbers a table by customer, product and week has.
-fn sale_cells(f: Shape) -> usize
-    ensures { λ r. ⌜ (r ≡ f .customers * f .products * f .weeks) × (r ≤ 16581375) ⌝ }
-{
-    count(f.customers) * count(f.products) * count(f.weeks)
-}
+use sections::index2;
+use sections::index3;
+use sections::volume;
 
 // The lengths of the bodies of sections 21 to 32.
 fn body_lengths(f: Shape) -> [u64; 12]
     ensures { λ r. ⌜ r ≡ planLengths f ⌝ }
 {
-    let wn = week_cells(f) as u64;
-    let wnn = pair_cells(f) as u64;
-    let cnw = sale_cells(f) as u64;
+    let wn = area(f.weeks, f.products) as u64;
+    let wnn = volume(f.weeks, f.products, f.products) as u64;
+    let cnw = volume(f.customers, f.products, f.weeks) as u64;
     [
         wn,
         wn,
@@ -81,8 +61,8 @@ fn is_binary(s: &[u8], f: Shape) -> bool
     requires { ⌜ Laid (now s) (planLengths f) ⌝ }
     ensures { λ r. ⌜ r ≡ binary (now (s .entry)) f ⌝ }
 {
-    let wn = week_cells(f);
-    let wnn = pair_cells(f);
+    let wn = area(f.weeks, f.products);
+    let wnn = volume(f.weeks, f.products, f.products);
     and(
         in_range(s, 0, 1, 0, wn, 0, 1),
         and(
@@ -117,44 +97,12 @@ pub fn plan_form(s: &[u8], f: Shape) -> Form
     Form::Good(f)
 }
 
-// The place of row i, column j in a table with n columns.
-fn row_place(i: usize, n: u8, j: usize) -> usize
-    requires { ⌜ (i ≤ 65025) × (j < n) ⌝ }
-    ensures { λ r. ⌜ r ≡ i * n + j ⌝ }
-{
-    i * count(n) + j
-}
-
-// The place of a week and product in a table of them.
-fn week_place(f: Shape, week: usize, product: usize) -> usize
-    requires { ⌜ (week < f .weeks) × (product < f .products) ⌝ }
-    ensures { λ r. ⌜ (r ≡ week * f .products + product) × (r < f .weeks * f .products) ⌝ }
-{
-    row_place(week, f.products, product)
-}
-
-// The place of a week and two products in a table of them.
-fn pair_place(f: Shape, week: usize, from: usize, to: usize) -> usize
-    requires { ⌜ (week < f .weeks) × (from < f .products) × (to < f .products) ⌝ }
-    ensures { λ r. ⌜ (r ≡ (week * f .products + from) * f .products + to) × (r < f .weeks * f .products * f .products) ⌝ }
-{
-    row_place(row_place(week, f.products, from), f.products, to)
-}
-
-// The place of a customer, product and week in a table of them.
-fn sale_place(f: Shape, customer: usize, product: usize, week: usize) -> usize
-    requires { ⌜ (customer < f .customers) × (product < f .products) × (week < f .weeks) ⌝ }
-    ensures { λ r. ⌜ (r ≡ (customer * f .products + product) * f .weeks + week) × (r < f .customers * f .products * f .weeks) ⌝ }
-{
-    row_place(row_place(customer, f.products, product), f.weeks, week)
-}
-
 // E: whether a product is made in a week.
 pub fn assigned(s: &[u8], f: Shape, week: usize, product: usize) -> u64
     requires { ⌜ (planForm f (now s) ≡ Good f) × (week < f .weeks) × (product < f .products) ⌝ }
     ensures { λ r. ⌜ (r ≡ planOf f (now (s .entry)) .line .assigned week product) × (r < 2) ⌝ }
 {
-    cell_in(s, 0, 1, week_place(f, week, product))
+    cell_in(s, 0, 1, index2(week, f.weeks, product, f.products))
 }
 
 // F: whether a product is the first of a week.
@@ -162,7 +110,7 @@ pub fn first(s: &[u8], f: Shape, week: usize, product: usize) -> u64
     requires { ⌜ (planForm f (now s) ≡ Good f) × (week < f .weeks) × (product < f .products) ⌝ }
     ensures { λ r. ⌜ (r ≡ planOf f (now (s .entry)) .line .first week product) × (r < 2) ⌝ }
 {
-    cell_in(s, 1, 1, week_place(f, week, product))
+    cell_in(s, 1, 1, index2(week, f.weeks, product, f.products))
 }
 
 // L: whether a product is the last of a week.
@@ -170,7 +118,7 @@ pub fn last(s: &[u8], f: Shape, week: usize, product: usize) -> u64
     requires { ⌜ (planForm f (now s) ≡ Good f) × (week < f .weeks) × (product < f .products) ⌝ }
     ensures { λ r. ⌜ (r ≡ planOf f (now (s .entry)) .line .last week product) × (r < 2) ⌝ }
 {
-    cell_in(s, 2, 1, week_place(f, week, product))
+    cell_in(s, 2, 1, index2(week, f.weeks, product, f.products))
 }
 
 // Z: whether one product follows another within a week.
@@ -178,7 +126,8 @@ pub fn changeover(s: &[u8], f: Shape, week: usize, from: usize, to: usize) -> u6
     requires { ⌜ (planForm f (now s) ≡ Good f) × (week < f .weeks) × (from < f .products) × (to < f .products) ⌝ }
     ensures { λ r. ⌜ (r ≡ planOf f (now (s .entry)) .line .changeover week from to) × (r < 2) ⌝ }
 {
-    cell_in(s, 3, 1, pair_place(f, week, from, to))
+    let j = index3(week, f.weeks, from, f.products, to, f.products);
+    cell_in(s, 3, 1, j)
 }
 
 // ZF: whether one product, the first of a week, follows another, the last of the week before.
@@ -186,7 +135,8 @@ pub fn week_changeover(s: &[u8], f: Shape, week: usize, from: usize, to: usize) 
     requires { ⌜ (planForm f (now s) ≡ Good f) × (week < f .weeks) × (from < f .products) × (to < f .products) ⌝ }
     ensures { λ r. ⌜ (r ≡ planOf f (now (s .entry)) .line .weekChangeover week from to) × (r < 2) ⌝ }
 {
-    cell_in(s, 4, 1, pair_place(f, week, from, to))
+    let j = index3(week, f.weeks, from, f.products, to, f.products);
+    cell_in(s, 4, 1, j)
 }
 
 // O: a product's place in a week.
@@ -194,7 +144,7 @@ pub fn position(s: &[u8], f: Shape, week: usize, product: usize) -> u64
     requires { ⌜ (planForm f (now s) ≡ Good f) × (week < f .weeks) × (product < f .products) ⌝ }
     ensures { λ r. ⌜ (r ≡ planOf f (now (s .entry)) .line .position week product) × (r < 2 ^ 8) ⌝ }
 {
-    cell_in(s, 5, 1, week_place(f, week, product))
+    cell_in(s, 5, 1, index2(week, f.weeks, product, f.products))
 }
 
 // T: the minutes that a product is made in a week.
@@ -202,7 +152,7 @@ pub fn minutes(s: &[u8], f: Shape, week: usize, product: usize) -> u64
     requires { ⌜ (planForm f (now s) ≡ Good f) × (week < f .weeks) × (product < f .products) ⌝ }
     ensures { λ r. ⌜ (r ≡ planOf f (now (s .entry)) .line .minutes week product) × (r < 2 ^ 16) ⌝ }
 {
-    cell_in(s, 6, 2, week_place(f, week, product))
+    cell_in(s, 6, 2, index2(week, f.weeks, product, f.products))
 }
 
 // P: the grams of a product made in a week.
@@ -210,15 +160,7 @@ pub fn production(s: &[u8], f: Shape, week: usize, product: usize) -> u64
     requires { ⌜ (planForm f (now s) ≡ Good f) × (week < f .weeks) × (product < f .products) ⌝ }
     ensures { λ r. ⌜ (r ≡ planOf f (now (s .entry)) .production week product) × (r < 2 ^ 32) ⌝ }
 {
-    cell_in(s, 7, 4, week_place(f, week, product))
-}
-
-// S: the grams of a product sold to a customer in a week.
-pub fn sales(s: &[u8], f: Shape, customer: usize, product: usize, week: usize) -> u64
-    requires { ⌜ (planForm f (now s) ≡ Good f) × (customer < f .customers) × (product < f .products) × (week < f .weeks) ⌝ }
-    ensures { λ r. ⌜ (r ≡ planOf f (now (s .entry)) .sales customer product week) × (r < 2 ^ 32) ⌝ }
-{
-    cell_in(s, 8, 4, sale_place(f, customer, product, week))
+    cell_in(s, 7, 4, index2(week, f.weeks, product, f.products))
 }
 
 // V: the grams of a product in stock after a week.
@@ -226,7 +168,16 @@ pub fn inventory(s: &[u8], f: Shape, week: usize, product: usize) -> u64
     requires { ⌜ (planForm f (now s) ≡ Good f) × (week < f .weeks) × (product < f .products) ⌝ }
     ensures { λ r. ⌜ (r ≡ planOf f (now (s .entry)) .inventory week product) × (r < 2 ^ 32) ⌝ }
 {
-    cell_in(s, 9, 4, week_place(f, week, product))
+    cell_in(s, 9, 4, index2(week, f.weeks, product, f.products))
+}
+
+// S: the grams of a product sold to a customer in a week.
+pub fn sales(s: &[u8], f: Shape, customer: usize, product: usize, week: usize) -> u64
+    requires { ⌜ (planForm f (now s) ≡ Good f) × (customer < f .customers) × (product < f .products) × (week < f .weeks) ⌝ }
+    ensures { λ r. ⌜ (r ≡ planOf f (now (s .entry)) .sales customer product week) × (r < 2 ^ 32) ⌝ }
+{
+    let j = index3(customer, f.customers, product, f.products, week, f.weeks);
+    cell_in(s, 8, 4, j)
 }
 
 // Δ: the grams of a product owed to a customer after a week.
@@ -234,7 +185,8 @@ pub fn backlog(s: &[u8], f: Shape, customer: usize, product: usize, week: usize)
     requires { ⌜ (planForm f (now s) ≡ Good f) × (customer < f .customers) × (product < f .products) × (week < f .weeks) ⌝ }
     ensures { λ r. ⌜ (r ≡ planOf f (now (s .entry)) .backlog customer product week) × (r < 2 ^ 32) ⌝ }
 {
-    cell_in(s, 10, 4, sale_place(f, customer, product, week))
+    let j = index3(customer, f.customers, product, f.products, week, f.weeks);
+    cell_in(s, 10, 4, j)
 }
 
 // The profit in thousandths of a cent.
@@ -243,4 +195,45 @@ pub fn profit(s: &[u8], f: Shape) -> i64
     ensures { λ r. ⌜ r ≡ planOf f (now (s .entry)) .profit ⌝ }
 {
     signed(cell_in(s, 11, 8, 0))
+}
+
+// Where the body in a place begins; place 12 is the file's end.
+pub fn section_start(f: Shape, place: usize) -> usize
+    requires { ⌜ place ≤ 12 ⌝ }
+    ensures { λ r. ⌜ (r ≡ start (planLengths f) place) × (r < 2 ^ 32) ⌝ }
+{
+    let lengths = body_lengths(f);
+    let mut at = 110;
+    let mut i = 0;
+    while i < place {
+        at += lengths[i] as usize;
+        i += 1;
+    }
+    at
+}
+
+// The length of a plan file.
+pub fn plan_length(f: Shape) -> usize
+    ensures { λ r. ⌜ (r ≡ start (planLengths f) 12) × (r < 2 ^ 32) ⌝ }
+{
+    section_start(f, 12)
+}
+
+// Stores the contents of a plan file.
+pub fn write_contents(out: &mut [u8], f: Shape)
+    requires { ⌜ 110 ≤ length (now out) ⌝ }
+    ensures { λ _. ⌜ now (out .exit) ≡ store (now (out .entry)) 0 (contentsBytes 2 21 (planLengths f)) ⌝ }
+{
+    let lengths = body_lengths(f);
+    contents::write_contents(out, 2, 21, &lengths);
+}
+
+// Stores numbers of k bytes, end to end, as the body in a place.
+pub fn write_section(out: &mut [u8], f: Shape, place: usize, k: usize, values: &[u64])
+    requires { ⌜ (place < 12) × (start (planLengths f) place + k * length (now values) ≤ length (now out)) ⌝ }
+    ensures { λ _. ⌜ now (out .exit) ≡ store (now (out .entry)) (start (planLengths f) place)
+        (encode k (length (now (values .entry))) (λ i. getD (now (values .entry)) i 0)) ⌝ }
+{
+    let at = section_start(f, place);
+    write_all(&mut out[at..], k, values);
 }

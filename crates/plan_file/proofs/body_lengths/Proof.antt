@@ -6,9 +6,9 @@ use Rattle.plan_file.proofs.body_lengths.Tie as tie
 
 returns : tie.Need-returns
 returns c =
-    let e = c .before .before .week-cells .ensures .0 in
-    let g = c .before .pair-cells .ensures .0 in
-    let h = c .sale-cells .ensures .0 in
+    let e = c .before .before .area .ensures .0 in
+    let g = c .before .volume .ensures .0 in
+    let h = c .volume2 .ensures .0 in
     simp (e, g, h, one-mul)
 
 pub body-lengths-spec : {M : Type 1} → statement M

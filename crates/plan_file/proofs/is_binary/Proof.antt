@@ -23,8 +23,8 @@ returns c =
       k .before .before .in-range3 .ensures,
       k .before .before .before .in-range2 .ensures,
       k .before .before .before .before .in-range .ensures,
-      m .pair-cells .ensures .0,
-      m .before .week-cells .ensures .0,
+      m .volume .ensures .0,
+      m .before .area .ensures .0,
     )
 
 pub is-binary-spec : {M : Type 1} → statement M
@@ -33,11 +33,11 @@ is-binary-spec =
     (tie.spec
     (λ c κs. search needs)
     (λ c κs. search needs)
-    (λ c κs. holds _ (c .before .before .before .pre) 0 (omega arith) width1 refl (c .before .week-cells .ensures .0))
-    (λ c κs. let k = c .before in holds _ (k .before .before .before .pre) 1 (omega arith) width1 refl (k .before .week-cells .ensures .0))
-    (λ c κs. let k = c .before .before in holds _ (k .before .before .before .pre) 2 (omega arith) width1 refl (k .before .week-cells .ensures .0))
-    (λ c κs. let k = c .before .before .before in holds _ (k .before .before .before .pre) 3 (omega arith) width1 refl (k .pair-cells .ensures .0))
-    (λ c κs. let k = c .before .before .before .before in holds _ (k .before .before .before .pre) 4 (omega arith) width1 refl (k .pair-cells .ensures .0))
+    (λ c κs. holds _ (c .before .before .before .pre) _ (omega arith) width1 refl (c .before .area .ensures .0))
+    (λ c κs. let k = c .before in holds _ (k .before .before .before .pre) _ (omega arith) width1 refl (k .before .area .ensures .0))
+    (λ c κs. let k = c .before .before in holds _ (k .before .before .before .pre) _ (omega arith) width1 refl (k .before .area .ensures .0))
+    (λ c κs. let k = c .before .before .before in holds _ (k .before .before .before .pre) _ (omega arith) width1 refl (k .volume .ensures .0))
+    (λ c κs. let k = c .before .before .before .before in holds _ (k .before .before .before .pre) _ (omega arith) width1 refl (k .volume .ensures .0))
     (λ c κs. search needs)
     (λ c κs. search needs)
     (λ c κs. search needs)

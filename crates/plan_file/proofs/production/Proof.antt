@@ -2,26 +2,18 @@
 use borrow.Author.Needs.{needs}
 use native.Mathlib.Omega.{arith}
 use mathlib.Core.Path.{refl}
-use Rattle.contents.specs.Contents.{cell}
 use Rattle.sections.proofs.Rows.{width4}
 use Rattle.plan_file.specs.Plan.{planOf}
-use Rattle.plan_file.proofs.Flat.{answered}
-use Rattle.plan_file.proofs.PlanReads.{plan-fits}
-use Rattle.plan_file.proofs.Access.{inside}
+use Rattle.plan_file.proofs.Access.{inside, number}
 use Rattle.plan_file.proofs.production.Statement.{statement}
 use Rattle.plan_file.proofs.production.Tie as tie
 
+cell-in-requires : tie.Need-cell-in-requires
+cell-in-requires c κs = inside _ _ (c .before .before .pre .0) _ (omega arith) width4 refl (c .index2 .ensures .1)
+
 returns : tie.Need-returns
 unfolding planOf
-returns c =
-    let s = c .before .before .before in
-    answered (cell 4 _ 7) (c .cell-in .ensures) (c .before .week-place .ensures .0)
-    (plan-fits _ _ (λ i. c .before .before .shared-slice-known .given i .fits) (s .pre .0) .production _ _ (s .pre .1) (s .pre .2))
+returns c = number _ _ _ (λ i. c .before .before .shared-slice-known .given i .fits) (c .cell-in .ensures) (c .before .index2 .ensures .0)
 
 pub production-spec : {M : Type 1} → statement M
-production-spec =
-    tie.close
-    (tie.spec
-    (λ c κs. search needs)
-    (λ c κs. inside _ _ (c .before .before .pre .0) 7 (omega arith) width4 refl (c .week-place .ensures .1))
-    returns)
+production-spec = tie.close (tie.spec (λ c κs. search needs) cell-in-requires returns)

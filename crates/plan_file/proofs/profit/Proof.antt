@@ -25,6 +25,6 @@ pub profit-spec : {M : Type 1} → statement M
 profit-spec =
     tie.close
     (tie.spec
-    (λ c κs. inside _ _ (c .before .pre) 11 (omega arith) {m = 1} width8 refl (omega arith))
+    (λ c κs. inside _ _ (c .before .pre) _ (omega arith) {m = 1} width8 refl (omega arith))
     (λ c κs. search needs)
     returns)

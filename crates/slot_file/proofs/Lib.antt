@@ -1,0 +1,8 @@
+pub mod Runs
+pub mod Cubes
+pub mod SlotBytes
+pub mod SlotPlaces
+pub mod SlotReads
+pub mod SlotsIsFile
+pub mod FileIsSlots
+pub mod SameSlotFiles

@@ -1,0 +1,91 @@
+-- What a slot file that passes its rows holds: the rows as facts, and the numbers of `slotsOf` within their ranges. Assumes nothing.
+use Prim.Native.Nat.{ℕ, _+_, _*_, _≤_, _<_, _^_}
+use mathlib.Core.Path.{_≡_}
+use mathlib.Core.List.{List}
+use native.Mathlib.Omega.{arith}
+use lib.ListN.{length, getD}
+use lib.Dec.{ltb}
+use borrow.Author.Tests.{ltb-true}
+use Rattle.mathematics.proofs.Below.{and-both, all-each}
+use Rattle.numbers.specs.Number.{Bytes}
+use Rattle.numbers.proofs.Number.{number-below}
+use Rattle.contents.specs.Contents.{offset, cell, headed, placed, sized}
+use Rattle.contents.proofs.Facts.{Headed, headed-facts}
+use Rattle.sections.specs.Section.{inRange, Laid}
+use Rattle.sections.specs.declared.Shape.{Shape}
+use Rattle.sections.specs.declared.Form.the-variants.{Good}
+use Rattle.sections.proofs.Tables.{range-first}
+use Rattle.sections.proofs.Rows.{row-good}
+use Rattle.slot_file.specs.Slots.{Slot, slotCount, slotAt, slotsBefore, slotsOf, SlotsFit}
+use Rattle.slot_file.specs.Form.{slotLengths, slotsInRange, slotForm}
+use Rattle.slot_file.proofs.Runs.{list-length, list-at, run-below}
+use Rattle.slot_file.proofs.SlotPlaces.{slots-held}
+
+-- rows 21 to 24
+pub record SlotGood (f : Shape) (s : List ℕ) : Type 0 where
+  pub head : Headed s 3 41 3
+  pub laid : Laid s (slotLengths f (slotsBefore s (f .weeks)))
+  pub some : (w : ℕ) → w < f .weeks → 1 ≤ slotCount s w
+  pub few : (w : ℕ) → w < f .weeks → slotCount s w ≤ f .products
+  pub product : (j : ℕ) → j < slotsBefore s (f .weeks) → slotAt s j .product < f .products
+
+pub slot-good : (f g : Shape) (s : List ℕ) → slotForm f s ≡ Good g → SlotGood f s
+unfolding slotForm slotsInRange slotCount
+slot-good f g s e =
+    let a = row-good 21 (headed s 3 41 3) _ g e in
+    let b = row-good 22 (placed s 3) _ g (a .1) in
+    let d = row-good 23 (sized s (slotLengths f (slotsBefore s (f .weeks)))) _ g (b .1) in
+    let r = row-good 24 (slotsInRange s f) _ g (d .1) .0 in
+    let in-range = and-both (inRange 1 s 0 0 (f .weeks) 1 (f .products)) _ r in
+    let counts = range-first 1 s 0 (f .weeks) 1 (f .products) (in-range .0) in
+    let h = headed-facts s 3 41 3 (a .0) in
+    record {
+      head = h;
+      laid = record { few = omega arith; long = h .long; lies = b .0; lens = d .0 };
+      some = λ w l. counts w l .0;
+      few = λ w l. counts w l .1;
+      product = λ j l. ltb-true _ _ (all-each (slotsBefore s (f .weeks)) (λ q. ltb (slotAt s q .product) (f .products)) (in-range .1) j l);
+    }
+
+-- slot j of all lies within the file
+pub slot-inside : (f : Shape) (s : List ℕ) → slotForm f s ≡ Good f → (j : ℕ) → j < slotsBefore s (f .weeks)
+    → (29 ≤ length s) × (offset s 1 + 3 * j + 3 ≤ length s)
+slot-inside f s e j l = let z = slot-good f f s e .laid in (z .long, omega (arith, slots-held _ _ _ z))
+
+-- the slots of a week
+pub week-length : (f : Shape) (s : List ℕ) (w : ℕ) → length (slotsOf f s .line .week w) ≡ slotCount s w
+unfolding slotsOf
+week-length f s w = list-length (slotCount s w) (λ k. slotAt s (slotsBefore s w + k))
+
+pub week-slot : (f : Shape) (s : List ℕ) (w k : ℕ) (d : Slot) → k < slotCount s w
+    → getD (slotsOf f s .line .week w) k d ≡ slotAt s (slotsBefore s w + k)
+unfolding slotsOf
+week-slot f s w k d l = list-at (slotCount s w) (λ j. slotAt s (slotsBefore s w + j)) k d l
+
+-- slot k of week w is one of all
+pub slot-below : (s : List ℕ) (n w k : ℕ) → w < n → k < slotCount s w → slotsBefore s w + k < slotsBefore s n
+unfolding slotsBefore
+slot-below s n w k l h = run-below n (slotCount s) w k l h
+
+-- the widths
+pub minutes-below : (s : List ℕ) → Bytes s → (j : ℕ) → slotAt s j .minutes < 2 ^ 16
+unfolding slotAt
+minutes-below s b j = number-below 2 s _ b
+
+pub sales-below : (f : Shape) (s : List ℕ) → Bytes s → (c i w : ℕ) → slotsOf f s .sales c i w < 2 ^ 32
+unfolding slotsOf cell
+sales-below f s b c i w = number-below 4 s _ b
+
+pub slots-fit : (f : Shape) (s : List ℕ) → Bytes s → slotForm f s ≡ Good f → SlotsFit f (slotsOf f s)
+slots-fit f s b e =
+    let h = slot-good f f s e in
+    record {
+      some = λ w l. omega (arith, week-length f s w, h .some w l);
+      few = λ w l. omega (arith, week-length f s w, h .few w l);
+      product = λ w k l m. let n = in-week w k m in rw (week-slot f s w k _ n) (h .product (slotsBefore s w + k) (slot-below s (f .weeks) w k l n));
+      minutes = λ w k l m. rw (week-slot f s w k _ (in-week w k m)) (minutes-below s b (slotsBefore s w + k));
+      sales = λ c i w l m n. sales-below f s b c i w;
+    }
+  where
+    in-week : (w k : ℕ) → k < length (slotsOf f s .line .week w) → k < slotCount s w
+    in-week w k m = omega (arith, week-length f s w)

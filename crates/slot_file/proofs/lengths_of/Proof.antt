@@ -1,0 +1,16 @@
+-- `slot_file::lengths_of` meets its contract. Assumes nothing.
+use borrow.Author.Needs.{needs}
+use native.Mathlib.Nat.{one-mul}
+use Rattle.slot_file.proofs.SlotPlaces.{slot-listable}
+use Rattle.slot_file.proofs.lengths_of.Statement.{statement}
+use Rattle.slot_file.proofs.lengths_of.Tie as tie
+
+returns : tie.Need-returns
+returns c =
+    let w = c .wide .ensures in
+    let v = c .before .volume .ensures in
+    (rw (w .0, v .0, one-mul), slot-listable _ _ (c .before .before .pre) (rw (w .0) at (w .1)) (rw (v .0) at (v .1)))
+
+pub lengths-of-spec : {M : Type 1} → statement M
+lengths-of-spec =
+    tie.close (tie.spec (λ c κs. search needs) (λ c κs. search needs) (λ c. search needs) (λ c. search needs) returns)

@@ -6,7 +6,16 @@ use plant_file::plant_form;
 use sections::Form;
 use sections::Shape;
 use slot_file::slot_form;
+ghost use mathlib.Core.Path.{_≡_};
 ghost use Rattle.io.specs.Counts.{Counts};
+ghost use Rattle.sections.specs.Rows.{numberOf};
+ghost use Rattle.formcheck.specs.Answer.{answerOf};
+
+enum Kind {
+    Plant,
+    Plan,
+    Slots,
+}
 
 // Puts the start of a file at the start of buf, and answers how many bytes. One that cannot be read counts as empty.
 fn read_file(path: &[u8], buf: &mut [u8]) -> usize
@@ -21,25 +30,37 @@ fn read_file(path: &[u8], buf: &mut [u8]) -> usize
     got
 }
 
-fn number(form: Form) -> u64 {
+// The kind of file that a name tells: slots.., plan-.. or plan.., and plant.. for any other.
+fn kind_of(name: &[u8]) -> Kind {
+    if name.len() < 5 {
+        return Kind::Plant;
+    }
+    if name[0] == b's' {
+        return Kind::Slots;
+    }
+    if name[4] == b't' {
+        return Kind::Plant;
+    }
+    Kind::Plan
+}
+
+fn number(form: Form) -> u64
+    ensures { λ r. ⌜ r ≡ numberOf form ⌝ }
+{
     match form {
         Form::Good(_) => 0,
         Form::Refused(n) => n as u64,
     }
 }
 
-// The rows for the kind of file that a name tells: plan-.., slots-.., and plant-.. for any other.
-fn answer(name: &[u8], file: &[u8], plant: Shape) -> u64 {
-    if name.len() < 5 {
-        return number(plant_form(file));
+fn answer(kind: Kind, file: &[u8], plant: Shape) -> u64
+    ensures { λ r. ⌜ r ≡ answerOf kind (now (file .entry)) plant ⌝ }
+{
+    match kind {
+        Kind::Plant => number(plant_form(file)),
+        Kind::Plan => number(plan_form(file, plant)),
+        Kind::Slots => number(slot_form(file, plant)),
     }
-    if name[0] == b's' {
-        return number(slot_form(file, plant));
-    }
-    if name[4] == b't' {
-        return number(plant_form(file));
-    }
-    number(plan_form(file, plant))
 }
 
 fn report(i: usize, plant: Shape) {
@@ -47,21 +68,24 @@ fn report(i: usize, plant: Shape) {
     let n = os::arg(i, &mut name);
     let mut file = io::large_buffer();
     let m = read_file(&name[..n], &mut file);
+    let kind = kind_of(&name[..n]);
     io::write_all(STDOUT_FILENO, &name[..n]);
     io::write_all(STDOUT_FILENO, b" ");
-    io::print_decimal(STDOUT_FILENO, answer(&name[..n], &file[..m], plant));
+    io::print_decimal(STDOUT_FILENO, answer(kind, &file[..m], plant));
     io::write_all(STDOUT_FILENO, b"\n");
+}
+
+fn report_all(plant: Shape) {
+    for i in 1..os::arg_count() {
+        report(i, plant);
+    }
 }
 
 fn main() {
     let mut file = io::large_buffer();
     let n = read_file(b"plant.bin", &mut file);
     match plant_form(&file[..n]) {
-        Form::Good(plant) => {
-            for i in 1..os::arg_count() {
-                report(i, plant);
-            }
-        }
+        Form::Good(plant) => report_all(plant),
         Form::Refused(_) => {
             io::write_all(STDOUT_FILENO, b"plant.bin is no plant\n");
         }

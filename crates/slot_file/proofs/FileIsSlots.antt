@@ -16,8 +16,8 @@ use Rattle.numbers.specs.Number.{digits, part}
 use Rattle.numbers.proofs.Number.{encode-length, number-digits}
 use Rattle.numbers.proofs.Store.{part-part}
 use Rattle.contents.specs.Contents.{offset, extent, cell, sized}
-use Rattle.contents.proofs.Facts.{at-sized}
 use Rattle.contents.specs.File.{start, Listable}
+use Rattle.contents.proofs.Facts.{at-sized}
 use Rattle.contents.proofs.FileWritten as laid
 use Rattle.sections.specs.Section.{inRange}
 use Rattle.sections.specs.declared.Shape.{Shape}
@@ -58,9 +58,10 @@ module _ (f : Shape) (x : Slots) where
   slots-length : (n : ℕ) → sumBelow n (λ w. length (slotBytes (x .line .week w))) ≡ 3 * sumBelow n count
   slots-length n = sum-ext n _ (λ w. count w * 3) (λ w l. bytes-length (x .line .week w)) ∙ (sum-mul n count 3 ∙ mul-comm (sumBelow n count) 3)
 
-  lengths : map length (slotBodies f x) ≡ slotLengths f total
+  -- the lengths of the bodies are those of row 23
+  pub body-lengths : map length (slotBodies f x) ≡ slotLengths f total
   unfolding slotBodies
-  lengths =
+  body-lengths =
       let a = encode-length 1 (f .weeks) count in
       let b = join-length (f .weeks) (λ w. slotBytes (x .line .week w)) ∙ slots-length (f .weeks) in
       let d = cube-length 4 (f .customers) (f .products) (f .weeks) (x .sales) in
@@ -68,7 +69,7 @@ module _ (f : Shape) (x : Slots) where
 
   pub file-length : length F ≡ start (slotLengths f total) 3
   unfolding slotFile
-  file-length = laid.file-length 3 41 (slotBodies f x) ∙ ap (λ (l : List ℕ). start l (length l)) lengths
+  file-length = laid.file-length 3 41 (slotBodies f x) ∙ ap (λ (l : List ℕ). start l (length l)) body-lengths
 
   module _ (small : (f .products < 256) × (f .customers < 256) × (f .weeks < 256)) (h : SlotsFit f x) where
     -- a week's count is a byte
@@ -80,12 +81,12 @@ module _ (f : Shape) (x : Slots) where
 
     listable : Listable 41 (map length (slotBodies f x))
     listable =
-        rw lengths
+        rw body-lengths
         (slot-listable f total few (small .2) (mul-le-mul (mul-le-mul (byte-most (small .1)) (byte-most (small .0))) (byte-most (small .2))))
 
     extents : (i : ℕ) → i < 3 → extent F i ≡ getD (slotLengths f total) i 0
     unfolding slotFile slotBodies
-    extents i l = laid.extent-is 3 41 (slotBodies f x) (omega arith) listable i l ∙ ap (λ (n : List ℕ). getD n i 0) lengths
+    extents i l = laid.extent-is 3 41 (slotBodies f x) (omega arith) listable i l ∙ ap (λ (n : List ℕ). getD n i 0) body-lengths
 
     body : (i : ℕ) → i < 3 → part F (offset F i) (extent F i) ≡ getD (slotBodies f x) i []
     unfolding slotFile slotBodies

@@ -1,6 +1,7 @@
 -- What a slot file that passes its rows holds: the rows as facts, and the numbers of `slotsOf` within their ranges. Assumes nothing.
 use Prim.Native.Nat.{ℕ, _+_, _*_, _≤_, _<_, _^_}
 use mathlib.Core.Path.{_≡_}
+use mathlib.Core.Bool.{true}
 use mathlib.Core.List.{List}
 use native.Mathlib.Omega.{arith}
 use lib.ListN.{length, getD}
@@ -29,23 +30,35 @@ pub record SlotGood (f : Shape) (s : List ℕ) : Type 0 where
   pub few : (w : ℕ) → w < f .weeks → slotCount s w ≤ f .products
   pub product : (j : ℕ) → j < slotsBefore s (f .weeks) → slotAt s j .product < f .products
 
-pub slot-good : (f g : Shape) (s : List ℕ) → slotForm f s ≡ Good g → SlotGood f s
-unfolding slotForm slotsInRange slotCount
-slot-good f g s e =
-    let a = row-good 21 (headed s 3 41 3) _ g e in
-    let b = row-good 22 (placed s 3) _ g (a .1) in
-    let d = row-good 23 (sized s (slotLengths f (slotsBefore s (f .weeks)))) _ g (b .1) in
-    let r = row-good 24 (slotsInRange s f) _ g (d .1) .0 in
-    let in-range = and-both (inRange 1 s 0 0 (f .weeks) 1 (f .products)) _ r in
-    let counts = range-first 1 s 0 (f .weeks) 1 (f .products) (in-range .0) in
-    let h = headed-facts s 3 41 3 (a .0) in
-    record {
-      head = h;
-      laid = record { few = omega arith; long = h .long; lies = b .0; lens = d .0 };
-      some = λ w l. counts w l .0;
-      few = λ w l. counts w l .1;
-      product = λ j l. ltb-true _ _ (all-each (slotsBefore s (f .weeks)) (λ q. ltb (slotAt s q .product) (f .products)) (in-range .1) j l);
-    }
+module _ (f g : Shape) (s : List ℕ) (e : slotForm f s ≡ Good g) where
+  rows : (headed s 3 41 3 ≡ true) × (placed s 3 ≡ true) × (sized s (slotLengths f (slotsBefore s (f .weeks))) ≡ true)
+      × (slotsInRange s f ≡ true) × (Good f ≡ Good g)
+  unfolding slotForm
+  rows =
+      let a = row-good 21 (headed s 3 41 3) _ g e in
+      let b = row-good 22 (placed s 3) _ g (a .1) in
+      let d = row-good 23 (sized s (slotLengths f (slotsBefore s (f .weeks)))) _ g (b .1) in
+      let r = row-good 24 (slotsInRange s f) _ g (d .1) in
+      (a .0, b .0, d .0, r .0, r .1)
+
+  pub slot-good : SlotGood f s
+  unfolding slotsInRange slotCount
+  slot-good =
+      let h = headed-facts s 3 41 3 (rows .0) in
+      let range = and-both (inRange 1 s 0 0 (f .weeks) 1 (f .products)) _ (rows .3) in
+      let counts = range-first 1 s 0 (f .weeks) 1 (f .products) (range .0) in
+      let products = all-each (slotsBefore s (f .weeks)) (λ j. ltb (slotAt s j .product) (f .products)) (range .1) in
+      record {
+        head = h;
+        laid = record { few = omega arith; long = h .long; lies = rows .1; lens = rows .2 };
+        some = λ w l. counts w l .0;
+        few = λ w l. counts w l .1;
+        product = λ j l. ltb-true _ _ (products j l);
+      }
+
+  -- a good slot file has the plant's shape
+  pub slot-shape : g ≡ f
+  slot-shape = let q = rows .4 in cc
 
 -- slot j of all lies within the file
 pub slot-inside : (f : Shape) (s : List ℕ) → slotForm f s ≡ Good f → (j : ℕ) → j < slotsBefore s (f .weeks)

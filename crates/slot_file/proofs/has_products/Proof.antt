@@ -20,10 +20,10 @@ abbrev μ-loop : tie.MeasureT-loop
 loop-again : tie.Need-loop-again Inv-loop μ-loop
 loop-again c =
     let s = c .before .before .before .before .before .before .before .args .s .now in
-    let j = c .before .before .before .before .before .loop .j in
+    let before = c .before .before .before .before .before .loop in
     let at = c .before .before .before .slot-place .ensures .0 in
-    let e : c .before .wide .result ≡ slotAt s j .product = c .before .wide .ensures .0 ∙ product-at s j _ at in
-    (search needs, rw add-one (cc))
+    let e : c .before .wide .result ≡ slotAt s (before .j) .product = c .before .wide .ensures .0 ∙ product-at s (before .j) _ at in
+    (search needs, rw (add-one, ← e, ← before .inv .1) (c .and .ensures))
 
 returns : tie.Need-returns Inv-loop μ-loop
 returns c = let e : c .before .loop .j ≡ c .before .before .before .args .total = omega arith in cc

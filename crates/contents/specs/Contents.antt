@@ -27,11 +27,14 @@ extent s i = entry s i .length
 unfoldable pub cell : ℕ → List ℕ → ℕ → ℕ → ℕ
 cell k s i j = numberAt k s (offset s i + k * j)
 
--- rows 1, 11, 21: not too short for its contents, kind, section count and section numbers right
+-- kind, section count and section numbers right
+abbrev pub numbersRight : List ℕ → (kind first count : ℕ) → Bool
+numbersRight s kind first count =
+    eqb (getD s 0 0) kind && (eqb (getD s 1 0) count && allBelow count (λ i. eqb (entry s i .number) (first + i)))
+
+-- rows 1, 11, 21: not too short for its contents, and these numbers right
 unfoldable pub headed : List ℕ → (kind first count : ℕ) → Bool
-headed s kind first count =
-    leb (2 + 9 * count) (length s)
-    && (eqb (getD s 0 0) kind && (eqb (getD s 1 0) count && allBelow count (λ i. eqb (entry s i .number) (first + i))))
+headed s kind first count = leb (2 + 9 * count) (length s) && numbersRight s kind first count
 
 -- where the body in place i begins: the first right after the contents, each next where the one before ends
 abbrev pub edge : List ℕ → ℕ → ℕ → ℕ

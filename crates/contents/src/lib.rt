@@ -1,13 +1,12 @@
 // A file's table of contents: read on a slice and a position, tried, and written.
 ghost use mathlib.Core.Path.{_≡_};
-ghost use mathlib.Core.Bool.{_&&_};
 ghost use mathlib.Core.List.{_++_};
 ghost use lib.Dec.{eqb};
 ghost use Prim.Native.Nat.{_+_, _*_, _≤_, _<_, _^_};
 ghost use lib.ListN.{length, getD};
 ghost use Rattle.mathematics.specs.Below.{allBelow, joinBelow};
 ghost use Rattle.numbers.specs.Number.{store, digits};
-ghost use Rattle.contents.specs.Contents.{entryAt, entry, offset, cell, headed, placed, sized, Inside};
+ghost use Rattle.contents.specs.Contents.{entryAt, entry, cell, numbersRight, headed, placed, sized, Inside};
 ghost use Rattle.contents.specs.File.{entryBytes, contentsBytes, Listable};
 use numbers::and;
 use numbers::read;
@@ -65,7 +64,7 @@ fn numbered(s: &[u8], first: u64, count: usize) -> bool
 // Kind, count of sections and their numbers, of a file that is long enough for its contents.
 fn has_numbers(s: &[u8], kind: u64, first: u64, count: usize) -> bool
     requires { ⌜ (2 + 9 * count ≤ length (now s)) × (count < 256) × (first < 256) ⌝ }
-    ensures { λ r. ⌜ r ≡ (eqb (getD (now (s .entry)) 0 0) kind && (eqb (getD (now (s .entry)) 1 0) count && allBelow count (λ i. eqb (entry (now (s .entry)) i .number) (first + i)))) ⌝ }
+    ensures { λ r. ⌜ r ≡ numbersRight (now (s .entry)) kind first count ⌝ }
 {
     and(
         wide(s[0]) == kind,

@@ -54,6 +54,15 @@ module _ {A : Type 0} where
   join-add m zero f = rw (add-zero, append-nil)
   join-add m (suc n) f = rw (add-suc, ← append-assoc, join-add m n f)
 
+  -- the first of lists joined, apart
+  pub join-first : (n : ℕ) (f : ℕ → List A) → joinBelow (suc n) f ≡ f 0 ++ joinBelow n (λ k. f (suc k))
+  join-first zero f = sym (append-nil (f 0))
+  join-first (suc n) f = rw (join-first n f, append-assoc (f 0) (joinBelow n (λ k. f (suc k))) (f (suc n)))
+
+  -- n lists of one length
+  pub even-length : (n size : ℕ) (f : ℕ → List A) → ((i : ℕ) → length (f i) ≡ size) → length (joinBelow n f) ≡ n * size
+  even-length n size f h = join-length n f ∙ (sum-ext n _ (λ i. size) (λ i l. h i) ∙ sum-const n size)
+
   -- runs of lists, one run after the other
   pub join-runs : (m : ℕ) (count : ℕ → ℕ) (f : ℕ → List A)
       → joinBelow m (λ w. joinBelow (count w) (λ k. f (sumBelow w count + k))) ≡ joinBelow (sumBelow m count) f

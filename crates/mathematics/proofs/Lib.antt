@@ -1,5 +1,6 @@
 pub mod Below
 pub mod Join
+pub mod Lists
 pub mod Sums
 pub mod WeekRules
 pub mod WeekPositions

@@ -8,6 +8,7 @@ use native.Mathlib.Decide.{ℕ-discrete}
 use lib.ListN.{length, getD}
 use lib.Dec.{eqb}
 use borrow.Author.Tests.{eqb-true, eq-eqb}
+use Rattle.mathematics.proofs.Lists.{list-length, list-at}
 use Rattle.mathematics.specs.Below.{sumBelow, allBelow, listBelow, is}
 use Rattle.mathematics.proofs.Below.{sum-ext, sum-mono, sum-add, sum-mul, sum-swap, sum-some, sum-tight, sum-is-times}
 use Rattle.mathematics.proofs.Below.{all-each, each-all, bit-le, bit-eq, bit-iff}
@@ -66,10 +67,7 @@ equal-all n f g h = each-all n (λ k. eqb (f k) (g k)) (λ i l. eq-eqb (f i) (g 
 
 -- ---- the list of a function's values
 pub length-list : (n : ℕ) (f : ℕ → ℕ) → length (listBelow n f) ≡ n
-length-list zero f = refl
-length-list (suc n) f = ap suc (length-list n (λ k. f (suc k)))
+length-list n f = list-length n f
 
 pub getD-list : (n : ℕ) (f : ℕ → ℕ) (k : ℕ) → k < n → getD (listBelow n f) k 0 ≡ f k
-getD-list zero f k l = absurd (omega arith)
-getD-list (suc n) f zero l = refl
-getD-list (suc n) f (suc k) l = getD-list n (λ m. f (suc m)) k (omega arith)
+getD-list n f k l = list-at n f k 0 l

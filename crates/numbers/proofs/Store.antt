@@ -5,10 +5,13 @@ use mathlib.Core.List.{List, [], _∷_, _++_, append-assoc, append-nil}
 use native.Mathlib.Omega.{arith}
 use native.Mathlib.Nat.{zero-add}
 use lib.ListN.{length, getD, take, drop, length-append, length-drop, drop-of-length-le}
-use lib.Seq.{sets, sets-eq, length-sets, length-take-le, take-nil, drop-nil, take-all, take-take, drop-drop, take-at, drop-at, drop-append-add, getD-take, getD-drop}
+use lib.Seq.{sets, sets-eq, length-sets, length-take-le, take-nil, drop-nil, take-all, take-take, drop-drop}
+use lib.Seq.{take-at, drop-append-add, getD-take, getD-drop}
 use borrow.Rule.Slice.PartMut.{midOf, postOf, putMid}
 use native.Mathlib.Numerals.{add-one}
-use Rattle.mathematics.specs.Below.{joinBelow}
+use Rattle.mathematics.specs.Below.{sumBelow, joinBelow}
+use Rattle.mathematics.proofs.Below.{sum-prefix}
+use Rattle.mathematics.proofs.Join.{join-part}
 use Rattle.numbers.specs.Number.{part, store}
 
 -- ---- parts
@@ -31,6 +34,14 @@ part-after a b at n = ap (take n) (drop-append-add a b at)
 
 pub part-getD : (s : List ℕ) (at n i : ℕ) → i < n → getD (part s at n) i 0 ≡ getD s (at + i) 0
 part-getD s at n i h = getD-take n (drop at s) i 0 h ∙ getD-drop at s i 0
+
+-- each of the lists that a part of s joins stands where those before it end
+pub join-at : (n : ℕ) (f : ℕ → List ℕ) (s : List ℕ) (at m : ℕ) → sumBelow n (λ i. length (f i)) ≡ m → part s at m ≡ joinBelow n f
+    → (k : ℕ) → k < n → part s (at + sumBelow k (λ i. length (f i))) (length (f k)) ≡ f k
+join-at n f s at m q e k l =
+    let place = sumBelow k (λ i. length (f i)) in
+    sym (part-part s at place (length (f k)) m (omega (arith, sum-prefix n (λ i. length (f i)) (suc k) l)))
+    ∙ (ap (λ (x : List ℕ). part x place (length (f k))) (e ∙ sym (append-nil (joinBelow n f))) ∙ join-part n f [] k l)
 
 -- ---- stores
 pub store-length : (s : List ℕ) (at : ℕ) (b : List ℕ) → at + length b ≤ length s → length (store s at b) ≡ length s

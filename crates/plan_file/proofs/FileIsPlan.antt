@@ -19,8 +19,8 @@ use Rattle.plan_file.specs.Plan.{Plan, linePlanOf, planOf, Same2, Same3,
 use Rattle.plan_file.specs.Form.{planLengths, binary, planForm}
 use Rattle.plan_file.specs.File.{planBodies, planFile}
 use Rattle.plan_file.proofs.Lengths.{Small, listable}
-use Rattle.plan_file.proofs.Flat.{flat-each, flat-each3}
-use Rattle.plan_file.proofs.Bodies.{grid-length, cube-length}
+use Rattle.mathematics.proofs.Lists.{flat-each, flat-each3}
+use Rattle.sections.proofs.Bodies.{grid-length, cube-length}
 use Rattle.plan_file.proofs.PlanReads.{facts-binary, bits-range}
 
 -- each body has its length

@@ -9,24 +9,24 @@ use Rattle.sections.specs.declared.Form.the-variants.{Good}
 use Rattle.plan_file.specs.Plan.{Plan, planOf, SamePlan}
 use Rattle.plan_file.specs.Form.{planForm}
 use Rattle.plan_file.specs.File.{planBodies, planFile}
-use Rattle.plan_file.proofs.Bodies.{grid-same, cube-same}
+use Rattle.sections.proofs.Bodies.{grid-ext, cube-ext}
 use Rattle.plan_file.proofs.PlanIsFile.{plan-is-file}
 
 pub same-file : (f : Shape) (x y : Plan) → SamePlan f x y → planFile f x ≡ planFile f y
 unfolding planFile planBodies
 same-file f x y h =
     rw (
-      grid-same 1 (f .weeks) (f .products) (h .line .assigned),
-      grid-same 1 (f .weeks) (f .products) (h .line .first),
-      grid-same 1 (f .weeks) (f .products) (h .line .last),
-      cube-same 1 (f .weeks) (f .products) (f .products) (h .line .changeover),
-      cube-same 1 (f .weeks) (f .products) (f .products) (h .line .weekChangeover),
-      grid-same 1 (f .weeks) (f .products) (h .line .position),
-      grid-same 2 (f .weeks) (f .products) (h .line .minutes),
-      grid-same 4 (f .weeks) (f .products) (h .production),
-      cube-same 4 (f .customers) (f .products) (f .weeks) (h .sales),
-      grid-same 4 (f .weeks) (f .products) (h .inventory),
-      cube-same 4 (f .customers) (f .products) (f .weeks) (h .backlog),
+      grid-ext 1 (f .weeks) (f .products) _ _ (h .line .assigned),
+      grid-ext 1 (f .weeks) (f .products) _ _ (h .line .first),
+      grid-ext 1 (f .weeks) (f .products) _ _ (h .line .last),
+      cube-ext 1 (f .weeks) (f .products) (f .products) _ _ (h .line .changeover),
+      cube-ext 1 (f .weeks) (f .products) (f .products) _ _ (h .line .weekChangeover),
+      grid-ext 1 (f .weeks) (f .products) _ _ (h .line .position),
+      grid-ext 2 (f .weeks) (f .products) _ _ (h .line .minutes),
+      grid-ext 4 (f .weeks) (f .products) _ _ (h .production),
+      cube-ext 4 (f .customers) (f .products) (f .weeks) _ _ (h .sales),
+      grid-ext 4 (f .weeks) (f .products) _ _ (h .inventory),
+      cube-ext 4 (f .customers) (f .products) (f .weeks) _ _ (h .backlog),
       h .profit,
     )
 

@@ -1,17 +1,10 @@
--- Numbers of a section: those that lie within the file, and those of one byte. Assumes nothing.
-use Prim.Native.Nat.{ℕ, _+_, _*_, _<_}
+-- Numbers of one byte in a section. Assumes nothing.
+use Prim.Native.Nat.{ℕ, _+_, _*_}
 use mathlib.Core.Path.{_≡_, ap, _∙_}
 use mathlib.Core.List.{List}
 use native.Mathlib.Omega.{arith}
 use lib.ListN.{getD}
-use Rattle.numbers.proofs.Number.{room}
-use Rattle.contents.specs.Contents.{offset, cell, Inside}
-use Rattle.sections.specs.Section.{Holds}
-
--- each number that a section holds lies within the file
-pub holds-inside : {s : List ℕ} {i k m : ℕ} → Holds s i k m → (j : ℕ) → j < m → Inside s i k j
-holds-inside {s} {i} {k} {m} h j l =
-    record { width = h .width; listed = h .listed; few = h .few; within = omega (arith, h .fits, room k l) }
+use Rattle.contents.specs.Contents.{offset, cell}
 
 -- byte j of section i
 pub byte-cell : (s : List ℕ) (i j at : ℕ) → at ≡ offset s i + j → getD s at 0 ≡ cell 1 s i j

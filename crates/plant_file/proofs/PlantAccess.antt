@@ -2,20 +2,27 @@
 use Prim.Native.Nat.{ℕ, _*_, _≤_, _<_}
 use mathlib.Core.Path.{_≡_}
 use mathlib.Core.List.{List}
-use lib.ListN.{length, getD}
+use lib.ListN.{getD}
 use Rattle.numbers.specs.Number.{Width}
 use Rattle.contents.specs.Contents.{Inside}
 use Rattle.sections.specs.declared.Shape.{Shape}
 use Rattle.sections.specs.declared.Form.the-variants.{Good}
-use Rattle.sections.proofs.Rows.{laid-holds}
+use Rattle.sections.proofs.Rows.{laid-holds, holds-inside, width2, width4}
 use Rattle.plant_file.specs.Form.{plantLengths, plantForm}
-use Rattle.plant_file.proofs.Cells.{holds-inside}
 use Rattle.plant_file.proofs.PlantReads.{good-laid}
 
-pub plant-inside : (s : List ℕ) (f : Shape) → plantForm s ≡ Good f
-    → (place : ℕ) → place < length (plantLengths f) → (k m : ℕ) → Width k → k * m ≤ getD (plantLengths f) place 0
-    → (j : ℕ) → j < m → Inside s place k j
-plant-inside s f good place l k m w h j r = holds-inside (laid-holds (good-laid s f good) place l k m w h) j r
+-- number j of the m numbers of k bytes that make up the section in a place
+held : {s : List ℕ} {f : Shape} (k : ℕ) → Width k → plantForm s ≡ Good f → (place : ℕ) → place < 11
+    → {m j : ℕ} → k * m ≤ getD (plantLengths f) place 0 → j < m → Inside s place k j
+held {s} {f} k w good place l {m} {j} h r = holds-inside (laid-holds (good-laid s f good) place l k m w h) j r
+
+pub held2 : {s : List ℕ} {f : Shape} → plantForm s ≡ Good f → (place : ℕ) → place < 11
+    → {m j : ℕ} → 2 * m ≤ getD (plantLengths f) place 0 → j < m → Inside s place 2 j
+held2 = held 2 width2
+
+pub held4 : {s : List ℕ} {f : Shape} → plantForm s ≡ Good f → (place : ℕ) → place < 11
+    → {m j : ℕ} → 4 * m ≤ getD (plantLengths f) place 0 → j < m → Inside s place 4 j
+held4 = held 4 width4
 
 -- an answer, by its equation and the range of what it equals
 pub answer : {r x b : ℕ} → r ≡ x → x ≤ b → (r ≡ x) × (r ≤ b)

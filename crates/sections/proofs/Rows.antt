@@ -7,7 +7,8 @@ use mathlib.Core.Logic.{inl, inr}
 use native.Mathlib.Omega.{arith}
 use lib.ListN.{length, getD}
 use Rattle.numbers.specs.Number.{Width}
-use Rattle.contents.specs.Contents.{offset, extent}
+use Rattle.numbers.proofs.Number.{room}
+use Rattle.contents.specs.Contents.{offset, extent, Inside}
 use Rattle.contents.proofs.Facts.{placed-facts, sized-at, fits}
 use Rattle.sections.specs.Section.{Holds, Laid}
 use Rattle.sections.specs.Rows.{row}
@@ -32,6 +33,11 @@ width4 = inr (inr (inl refl))
 
 pub width8 : Width 8
 width8 = inr (inr (inr refl))
+
+-- each number that a section holds lies within the file
+pub holds-inside : {s : List ℕ} {i k m : ℕ} → Holds s i k m → (j : ℕ) → j < m → Inside s i k j
+holds-inside {s} {i} {k} {m} h j l =
+    record { width = h .width; listed = h .listed; few = h .few; within = omega (arith, h .fits, room k l) }
 
 module _ {s lengths : List ℕ} (z : Laid s lengths) where
   pub laid-extent : (i : ℕ) → i < length lengths → extent s i ≡ getD lengths i 0

@@ -27,8 +27,9 @@ use Rattle.sections.proofs.Tables.{section-at, cube-at}
 use Rattle.slot_file.specs.Slots.{Slot, Slots, slotCount, slotAt, slotsBefore, slotsOf, SameSlots, SlotsFit}
 use Rattle.slot_file.specs.Form.{slotLengths, slotsInRange, slotForm}
 use Rattle.slot_file.specs.File.{slotBytes, slotBodies, slotFile}
-use Rattle.slot_file.proofs.Cubes.{cube-length}
-use Rattle.slot_file.proofs.Runs.{join-at, run-of}
+use Rattle.sections.proofs.Bodies.{cube-length}
+use Rattle.mathematics.proofs.Lists.{run-of}
+use Rattle.numbers.proofs.Store.{join-at}
 use Rattle.slot_file.proofs.SlotBytes.{noSlot, bytesOf, slot-join, bytes-length}
 use Rattle.slot_file.proofs.SlotPlaces.{slot-listable}
 use Rattle.slot_file.proofs.SlotReads.{week-length, week-slot}

@@ -1,5 +1,3 @@
-pub mod Runs
-pub mod Cubes
 pub mod SlotBytes
 pub mod SlotPlaces
 pub mod SlotReads

@@ -14,7 +14,7 @@ use Rattle.sections.specs.declared.Form.the-variants.{Good}
 use Rattle.slot_file.specs.Slots.{Slots, slotsOf, SameSlots}
 use Rattle.slot_file.specs.Form.{slotForm}
 use Rattle.slot_file.specs.File.{slotBytes, slotFile, slotBodies}
-use Rattle.slot_file.proofs.Cubes.{cube-ext}
+use Rattle.sections.proofs.Bodies.{cube-ext}
 use Rattle.slot_file.proofs.SlotsIsFile.{slots-is-file}
 
 pub same-file : (f : Shape) (x y : Slots) → SameSlots f x y → slotFile f x ≡ slotFile f y

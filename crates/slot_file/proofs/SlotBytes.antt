@@ -8,7 +8,7 @@ use Rattle.mathematics.specs.Below.{joinBelow}
 use Rattle.numbers.specs.Number.{digits}
 use Rattle.slot_file.specs.Slots.{Slot}
 use Rattle.slot_file.specs.File.{slotBytes}
-use Rattle.slot_file.proofs.Runs.{join-first}
+use Rattle.mathematics.proofs.Join.{join-first}
 
 -- what stands past a week's last slot
 abbrev pub noSlot : Slot

@@ -19,7 +19,7 @@ use Rattle.sections.proofs.Tables.{range-first}
 use Rattle.sections.proofs.Rows.{row-good}
 use Rattle.slot_file.specs.Slots.{Slot, slotCount, slotAt, slotsBefore, slotsOf, SlotsFit}
 use Rattle.slot_file.specs.Form.{slotLengths, slotsInRange, slotForm}
-use Rattle.slot_file.proofs.Runs.{list-length, list-at, run-below}
+use Rattle.mathematics.proofs.Lists.{list-length, list-at, run-below}
 use Rattle.slot_file.proofs.SlotPlaces.{slots-held}
 
 -- rows 21 to 24

@@ -38,7 +38,9 @@ loop-again c =
     let l = a .lengths .now in
     let n = length (b .out) - b .p in
     let whole =
-    ap (putMid (b .p) n (b .out)) (c .before .before .write-entry .ensures ∙ ap (store (midOf (b .p) n (b .out)) 0) (entry-of (a .first) l (b .i) (b .number) (b .offset) (b .inv .1) (b .inv .2)))
+    ap (putMid (b .p) n (b .out))
+    (c .before .before .write-entry .ensures
+    ∙ ap (store (midOf (b .p) n (b .out)) 0) (entry-of (a .first) l (b .i) (b .number) (b .offset) (b .inv .1) (b .inv .2)))
     ∙ part-store (b .out) (b .p) (entryBytes (a .first) l (b .i)) (omega arith) in (
       search needs,
       omega arith,

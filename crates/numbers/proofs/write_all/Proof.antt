@@ -30,6 +30,11 @@ loop-again c =
 returns : tie.Need-returns Inv-loop μ-loop
 returns c = let e : c .before .loop .i ≡ length (c .before .before .before .before .args .values .now) = omega arith in cc
 
+add-p : tie.Need-add-p Inv-loop μ-loop
+add-p c =
+    let k = c .before .before .before .before .before .before .before .before .before .args .k in
+    omega (arith, room k (c .before .before .before .before .before .loop-test .taken))
+
 pub write-all-spec : {M : Type 1} → statement M
 write-all-spec =
     tie.close
@@ -40,7 +45,7 @@ write-all-spec =
     (λ c. search needs)
     (λ c. search needs)
     (λ c κs. omega (arith, room (c .before .before .before .before .before .before .args .k) (c .before .before .loop-test .taken)))
-    (λ c. omega (arith, room (c .before .before .before .before .before .before .before .before .before .args .k) (c .before .before .before .before .before .loop-test .taken)))
+    add-p
     (λ c. search needs)
     (λ c. search needs)
     loop-again

@@ -13,13 +13,17 @@ in-range-requires-2 : tie.Need-in-range-requires-2
 in-range-requires-2 c κs = laid-holds (c .before .before .before .before .pre) 2 (search needs) 2 _ width2 (omega arith)
 
 diagonal-zero-requires : tie.Need-diagonal-zero-requires
-diagonal-zero-requires c κs = (rw (c .before .before .before .count .ensures .0) (laid-holds (c .before .before .before .before .before .pre) 2 (search needs) 2 _ width2 (omega arith)), search needs)
+diagonal-zero-requires c κs =
+    let z = c .before .before .before .before .before .pre in
+    (rw (c .before .before .before .count .ensures .0) (laid-holds z 2 (search needs) 2 _ width2 (omega arith)), search needs)
 
 in-range-requires-3 : tie.Need-in-range-requires-3
 in-range-requires-3 c κs = laid-holds (c .before .before .before .before .before .before .pre) 3 (search needs) 4 _ width4 (omega arith)
 
 diagonal-zero-requires-2 : tie.Need-diagonal-zero-requires-2
-diagonal-zero-requires-2 c κs = (rw (c .before .before .before .before .before .count .ensures .0) (laid-holds (c .before .before .before .before .before .before .before .pre) 3 (search needs) 4 _ width4 (omega arith)), search needs)
+diagonal-zero-requires-2 c κs =
+    let z = c .before .before .before .before .before .before .before .pre in
+    (rw (c .before .before .before .before .before .count .ensures .0) (laid-holds z 3 (search needs) 4 _ width4 (omega arith)), search needs)
 
 returns : tie.Need-returns
 unfolding lineInRange

@@ -8,8 +8,8 @@ use Prim.Native.Nat.{ℕ, _≤_, _<_, _-_, _+_, _*_}
 use lib.Dec.{leb}
 use Rattle.mathematics.specs.Below.{allBelow}
 use Rattle.contents.specs.Contents.{cell, Inside}
+use Rattle.sections.proofs.Rows.{holds-inside}
 use Rattle.plant_file.specs.Form.{storageInRange}
-use Rattle.plant_file.proofs.Cells.{holds-inside}
 use Rattle.plant_file.proofs.is_storage_in_range.Statement.{statement}
 use Rattle.plant_file.proofs.is_storage_in_range.Tie as tie
 

@@ -1,18 +1,21 @@
 -- `plant_file::least_storage` meets its contract. Assumes nothing.
 use Prim.Native.Nat.{_*_}
-use Rattle.plant_file.proofs.PlantAccess.{plant-inside, answer}
-use Rattle.plant_file.proofs.PlantInRange.{plant-ranges}
-use Rattle.plant_file.specs.Plant.{plantOf}
-use Rattle.sections.proofs.Rows.{width4}
 use borrow.Author.Needs.{needs}
 use native.Mathlib.Nat.{le-trans}
 use native.Mathlib.Omega.{arith}
+use Rattle.plant_file.proofs.PlantAccess.{held4, answer}
+use Rattle.plant_file.proofs.PlantInRange.{plant-ranges}
+use Rattle.plant_file.specs.Plant.{plantOf}
 use Rattle.plant_file.proofs.least_storage.Statement.{statement}
 use Rattle.plant_file.proofs.least_storage.Tie as tie
 
 returns : tie.Need-returns
 unfolding plantOf
-returns c = let x = plant-ranges _ _ (c .before .before .pre .0) in answer (c .cell-in .ensures) (le-trans (x .storage-ordered _ (c .before .before .pre .1)) (x .storage-most _ (c .before .before .pre .1)))
+returns c =
+    let p = c .before .before .pre in
+    let x = plant-ranges _ _ (p .0) in
+    answer (c .cell-in .ensures) (le-trans (x .storage-ordered _ (p .1)) (x .storage-most _ (p .1)))
 
 pub least-storage-spec : {M : Type 1} → statement M
-least-storage-spec = tie.close (tie.spec (λ c. search needs) (λ c κs. plant-inside _ _ (c .before .pre .0) 8 (search needs) 4 (2 * c .before .args .f .products) width4 (omega arith) _ (omega arith)) returns)
+least-storage-spec =
+    tie.close (tie.spec (λ c. search needs) (λ c κs. held4 (c .before .pre .0) 8 (search needs) {m = 2 * c .before .args .f .products} (omega arith) (omega arith)) returns)

@@ -4,10 +4,9 @@ use mathlib.Core.Path.{_∙_}
 use native.Mathlib.Omega.{arith}
 use Prim.Native.Nat.{_+_, _*_}
 use Rattle.contents.specs.Contents.{cell}
-use Rattle.sections.proofs.Rows.{width4}
 use Rattle.plant_file.specs.Plant.{plantOf}
 use Rattle.plant_file.proofs.PlantInRange.{plant-ranges}
-use Rattle.plant_file.proofs.PlantAccess.{plant-inside, answer}
+use Rattle.plant_file.proofs.PlantAccess.{held4, answer}
 use Rattle.plant_file.proofs.opening_backlog.Statement.{statement}
 use Rattle.plant_file.proofs.opening_backlog.Tie as tie
 
@@ -15,7 +14,7 @@ cell-in-requires : tie.Need-cell-in-requires
 cell-in-requires c κs =
     let s = c .before .before .before in
     let f = s .args .f in
-    plant-inside _ f (s .pre .0) 9 (search needs) 4 (f .products + f .customers * f .products) width4 (omega arith) _ (omega arith)
+    held4 (s .pre .0) 9 (search needs) {m = f .products + f .customers * f .products} (omega arith) (omega arith)
 
 returns : tie.Need-returns
 unfolding plantOf

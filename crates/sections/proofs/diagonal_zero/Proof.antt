@@ -24,8 +24,8 @@ abbrev μ-loop : tie.MeasureT-loop
 -- the index on the diagonal is small, and its number lies within the file
 small : (c : tie.In-loop Inv-loop μ-loop) → c .before .loop .j * c .before .before .before .before .args .n + c .before .loop .j < 65025
 small c =
-    let n = c .before .before .before .before .args .n in
-    omega (arith, table-below (c .loop-test .taken) (c .loop-test .taken), mul-le-mul (byte-most (c .before .before .before .before .pre .1)) (byte-most (c .before .before .before .before .pre .1)))
+    let b = byte-most (c .before .before .before .before .pre .1) in
+    omega (arith, table-below (c .loop-test .taken) (c .loop-test .taken), mul-le-mul b b)
 
 inside : (c : tie.In-loop Inv-loop μ-loop) → Inside (c .before .before .before .before .args .s .now) (c .before .before .before .before .args .i)
     (c .before .before .before .before .args .k) (c .before .loop .j * c .before .before .before .before .args .n + c .before .loop .j)

@@ -1,15 +1,12 @@
--- Laws of the list of a function's values, of lists joined from the front, and of runs of numbers one after the other. Assumes nothing.
-use Prim.Native.Nat.{ℕ, zero, suc, _+_, _-_, _<_}
+-- Laws of the list of a function's values, and of runs of numbers one after the other. Assumes nothing.
+use Prim.Native.Nat.{ℕ, zero, suc, _+_, _*_, _/_, _%_, _-_, _<_}
 use mathlib.Core.Path.{_≡_, refl, sym, ap, _∙_}
-use mathlib.Core.List.{List, [], _++_, append-assoc, append-nil}
 use native.Mathlib.Omega.{arith}
 use native.Mathlib.Decide.{decLt}
+use native.Mathlib.Nat.{div-add-mod', div-lt-iff-lt-mul, mod-lt}
 use lib.ListN.{length, getD}
-use Rattle.mathematics.specs.Below.{sumBelow, joinBelow, listBelow}
+use Rattle.mathematics.specs.Below.{sumBelow, listBelow}
 use Rattle.mathematics.proofs.Below.{sum-prefix}
-use Rattle.mathematics.proofs.Join.{join-part}
-use Rattle.numbers.specs.Number.{part}
-use Rattle.numbers.proofs.Store.{part-part}
 
 module _ {A : Type 0} where
   pub list-length : (n : ℕ) (f : ℕ → A) → length (listBelow n f) ≡ n
@@ -21,12 +18,8 @@ module _ {A : Type 0} where
   list-at (suc n) f zero d l = refl
   list-at (suc n) f (suc k) d l = list-at n (λ m. f (suc m)) k d (omega arith)
 
-  -- the first of lists joined, apart
-  pub join-first : (n : ℕ) (f : ℕ → List A) → joinBelow (suc n) f ≡ f 0 ++ joinBelow n (λ k. f (suc k))
-  join-first zero f = sym (append-nil (f 0))
-  join-first (suc n) f = rw (join-first n f, append-assoc (f 0) (joinBelow n (λ k. f (suc k))) (f (suc n)))
-
--- place k of run w, of runs of these counts end to end, is below their sum
+-- ---- runs of these counts, end to end
+-- place k of run w is below their sum
 pub run-below : (n : ℕ) (count : ℕ → ℕ) (w k : ℕ) → w < n → k < count w → sumBelow w count + k < sumBelow n count
 run-below n count w k l h = omega (arith, sum-prefix n count (suc w) l)
 
@@ -45,10 +38,15 @@ run-of (suc n) count j l = elim (decLt j (sumBelow n count)) [
   | no h ↦ record { which = n; place = j - sumBelow n count; known = omega arith; inside = omega arith; stands = omega arith }
 ]
 
--- each of the lists that a part of s joins stands where those before it end
-pub join-at : (n : ℕ) (f : ℕ → List ℕ) (s : List ℕ) (at m : ℕ) → sumBelow n (λ i. length (f i)) ≡ m → part s at m ≡ joinBelow n f
-    → (k : ℕ) → k < n → part s (at + sumBelow k (λ i. length (f i))) (length (f k)) ≡ f k
-join-at n f s at m q e k l =
-    let place = sumBelow k (λ i. length (f i)) in
-    sym (part-part s at place (length (f k)) m (omega (arith, sum-prefix n (λ i. length (f i)) (suc k) l)))
-    ∙ (ap (λ (x : List ℕ). part x place (length (f k))) (e ∙ sym (append-nil (joinBelow n f))) ∙ join-part n f [] k l)
+-- ---- a table row by row: what holds at each row and column holds at each place
+pub flat-each : (P : ℕ → Type 0) (m n : ℕ) → ((i j : ℕ) → i < m → j < n → P (i * n + j)) → (q : ℕ) → q < m * n → P q
+flat-each P m zero h q l = absurd (omega arith)
+flat-each P m (suc n) h q l =
+    let w = suc n in
+    let there = h (q / w) (q % w) (div-lt-iff-lt-mul (omega arith) .1 l) (mod-lt q (omega arith)) in
+    rw (div-add-mod' q w) at there
+
+pub flat-each3 : (P : ℕ → Type 0) (l m n : ℕ) → ((h i j : ℕ) → h < l → i < m → j < n → P ((h * m + i) * n + j))
+    → (q : ℕ) → q < l * m * n → P q
+flat-each3 P l m n f =
+    flat-each P (l * m) n (λ q j a b. flat-each (λ x. P (x * n + j)) l m (λ h i d e. f h i j d e b) q a)

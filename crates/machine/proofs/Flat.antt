@@ -1,0 +1,109 @@
+-- Tables by row and column as flat rows: tests, sums and updates of m rows of n numbers are those of m * n numbers. Laws of updates: the
+-- value at each place inside and outside, the length. Assumes nothing.
+use Prim.Native.Nat.{ℕ, zero, suc, _+_, _*_, _/_, _%_, _<_, _≤_}
+use mathlib.Core.Path.{_≡_, refl, sym, ap, _∙_}
+use mathlib.Core.Bool.{Bool, true, false, _&&_}
+use mathlib.Core.List.{List}
+use native.Mathlib.Omega.{arith}
+use native.Mathlib.Decide.{ℕ-discrete}
+use native.Mathlib.Nat.{add-zero, add-suc, zero-add, zero-mul, suc-mul}
+use lib.ListN.{length, getD, set, length-set}
+use lib.Seq.{getD-set-same, getD-set-other}
+use Rattle.mathematics.specs.Below.{sumBelow, allBelow}
+use Rattle.mathematics.proofs.Below.{sum-ext}
+use Rattle.mathematics.proofs.Join.{row-of, column-of, table-below}
+use Rattle.machine.specs.State.{updateRow, updateRows}
+
+-- ---- tests
+pub all-ext : (n : ℕ) (p q : ℕ → Bool) → ((i : ℕ) → i < n → p i ≡ q i) → allBelow n p ≡ allBelow n q
+all-ext zero p q h = refl
+all-ext (suc n) p q h = rw (all-ext n p q (λ i l. h i (omega arith)), h n (omega arith))
+
+and-assoc : (a b c : Bool) → ((a && b) && c) ≡ (a && (b && c))
+and-assoc true b c = refl
+and-assoc false b c = refl
+
+and-true : (a : Bool) → (a && true) ≡ a
+and-true true = refl
+and-true false = refl
+
+all-add : (m n : ℕ) (p : ℕ → Bool) → allBelow (m + n) p ≡ (allBelow m p && allBelow n (λ j. p (m + j)))
+all-add m zero p = rw (add-zero, and-true)
+all-add m (suc n) p = rw (add-suc, all-add m n p, and-assoc)
+
+pub all-table : (m n : ℕ) (p : ℕ → ℕ → Bool) → allBelow m (λ c. allBelow n (λ i. p c i)) ≡ allBelow (m * n) (λ k. p (k / n) (k % n))
+all-table zero n p = rw zero-mul
+all-table (suc m) n p =
+    let q : ℕ → Bool = λ k. p (k / n) (k % n) in
+    let b : allBelow n (p m) ≡ allBelow n (λ j. q (m * n + j)) =
+    all-ext n (p m) (λ j. q (m * n + j)) (λ i l. sym ((λ u. p (row-of m l u) (column-of m l u)))) in
+    rw (suc-mul, all-add (m * n) n q, all-table m n p, b)
+
+-- ---- sums
+sum-split : (m n : ℕ) (f : ℕ → ℕ) → sumBelow (m + n) f ≡ sumBelow m f + sumBelow n (λ j. f (m + j))
+sum-split m zero f = rw add-zero (omega arith)
+sum-split m (suc n) f = rw add-suc (omega (arith, sum-split m n f))
+
+pub sum-table : (m n : ℕ) (f : ℕ → ℕ → ℕ) → sumBelow m (λ c. sumBelow n (λ i. f c i)) ≡ sumBelow (m * n) (λ k. f (k / n) (k % n))
+sum-table zero n f = rw zero-mul
+sum-table (suc m) n f =
+    let g : ℕ → ℕ = λ k. f (k / n) (k % n) in
+    rw suc-mul
+    (omega (arith, sum-split (m * n) n g, sum-table m n f, sum-ext n (f m) (λ j. g (m * n + j)) (λ i l. sym ((λ u. f (row-of m l u) (column-of m l u))))))
+
+-- ---- updates of a row
+pub row-ext : (base n : ℕ) (f g : ℕ → ℕ → ℕ) (l : List ℕ) → ((i v : ℕ) → i < n → f i v ≡ g i v) → updateRow base n f l ≡ updateRow base n g l
+row-ext base zero f g l h = refl
+row-ext base (suc n) f g l h = rw (row-ext base n f g l (λ i v r. h i v (omega arith)), h n (getD l (base + n) 0) (omega arith))
+
+pub row-length : (base n : ℕ) (f : ℕ → ℕ → ℕ) (l : List ℕ) → length (updateRow base n f l) ≡ length l
+row-length base zero f l = refl
+row-length base (suc n) f l = length-set (updateRow base n f l) (base + n) (f n (getD l (base + n) 0)) ∙ row-length base n f l
+
+-- before the row, and past it
+pub row-before : (base n : ℕ) (f : ℕ → ℕ → ℕ) (l : List ℕ) (k : ℕ) → k < base → getD (updateRow base n f l) k 0 ≡ getD l k 0
+row-before base zero f l k h = refl
+row-before base (suc n) f l k h =
+    getD-set-other (updateRow base n f l) (base + n) k (f n (getD l (base + n) 0)) 0 (λ e. omega arith) ∙ row-before base n f l k h
+
+pub row-past : (base n : ℕ) (f : ℕ → ℕ → ℕ) (l : List ℕ) (k : ℕ) → base + n ≤ k → getD (updateRow base n f l) k 0 ≡ getD l k 0
+row-past base zero f l k h = refl
+row-past base (suc n) f l k h =
+    getD-set-other (updateRow base n f l) (base + n) k (f n (getD l (base + n) 0)) 0 (λ e. omega arith) ∙ row-past base n f l k (omega arith)
+
+-- in the row
+pub row-at : (base n : ℕ) (f : ℕ → ℕ → ℕ) (l : List ℕ) → base + n ≤ length l → (k : ℕ) → k < n
+    → getD (updateRow base n f l) (base + k) 0 ≡ f k (getD l (base + k) 0)
+row-at base zero f l h k r = absurd (omega arith)
+row-at base (suc n) f l h k r = elim (ℕ-discrete k n) [
+  | yes e ↦ rw e (getD-set-same (updateRow base n f l) (base + n) (f n (getD l (base + n) 0)) 0 (omega (arith, row-length base n f l)))
+  | no d ↦
+      getD-set-other (updateRow base n f l) (base + n) (base + k) (f n (getD l (base + n) 0)) 0 (λ e. d (omega arith))
+      ∙ row-at base n f l (omega arith) k (omega arith)
+]
+
+-- a row in two parts
+row-add : (m n : ℕ) (f : ℕ → ℕ → ℕ) (l : List ℕ) → updateRow 0 (m + n) f l ≡ updateRow m n (λ i v. f (m + i) v) (updateRow 0 m f l)
+row-add m zero f l = rw add-zero
+row-add m (suc n) f l = rw (add-suc, zero-add, row-add m n f l, row-past 0 m f l (m + n) (omega arith))
+
+-- ---- updates of a table
+pub rows-flat : (m n : ℕ) (f : ℕ → ℕ → ℕ → ℕ) (l : List ℕ) → updateRows m n f l ≡ updateRow 0 (m * n) (λ k v. f (k / n) (k % n) v) l
+rows-flat zero n f l = rw zero-mul
+rows-flat (suc m) n f l =
+    let g : ℕ → ℕ → ℕ = λ k. f (k / n) (k % n) in
+    rw (suc-mul, row-add (m * n) n g l, rows-flat m n f l)
+    (row-ext (m * n) n (f m) (λ i. g (m * n + i)) _ (λ i v h. sym ((λ u. f (row-of m h u) (column-of m h u) v))))
+
+-- ---- the laws of a table, at each row and column
+pub rows-length : (m n : ℕ) (f : ℕ → ℕ → ℕ → ℕ) (l : List ℕ) → length (updateRows m n f l) ≡ length l
+rows-length m n f l = rw (rows-flat m n f l) (row-length 0 (m * n) (λ k. f (k / n) (k % n)) l)
+
+pub rows-past : (m n : ℕ) (f : ℕ → ℕ → ℕ → ℕ) (l : List ℕ) (k : ℕ) → m * n ≤ k → getD (updateRows m n f l) k 0 ≡ getD l k 0
+rows-past m n f l k h = rw (rows-flat m n f l) (row-past 0 (m * n) (λ j. f (j / n) (j % n)) l k (omega arith))
+
+pub rows-at : (m n : ℕ) (f : ℕ → ℕ → ℕ → ℕ) (l : List ℕ) → m * n ≤ length l → (c i : ℕ) → c < m → i < n
+    → getD (updateRows m n f l) (c * n + i) 0 ≡ f c i (getD l (c * n + i) 0)
+rows-at m n f l h c i p q =
+    let e = row-at 0 (m * n) (λ k. f (k / n) (k % n)) l (omega arith) (c * n + i) (table-below p q) in
+    rw (rows-flat m n f l) ((rw zero-add at e) ∙ (λ u. f (row-of c q u) (column-of c q u) (getD l (c * n + i) 0)))

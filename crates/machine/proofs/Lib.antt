@@ -1,0 +1,4 @@
+pub mod Signed
+pub mod Plants
+pub mod Steps
+pub mod Flat

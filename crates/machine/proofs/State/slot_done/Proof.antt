@@ -1,0 +1,45 @@
+-- `machine::State::slot_done` meets its contract. Assumes nothing.
+use Prim.Native.Nat.{_+_, _≤_}
+use native.Mathlib.Omega.{arith}
+use borrow.Author.Needs.{needs}
+use Rattle.machine.specs.State.{inventoryOf, withInventory, withWeek, withProfit, withMounted}
+use Rattle.machine.specs.Machine.{slotDone}
+use Rattle.machine.proofs.Plants.{counts}
+use Rattle.machine.proofs.State.slot_done.Statement.{statement}
+use Rattle.machine.proofs.State.slot_done.Tie as tie
+
+-- the product has a place in the arrays
+place : (c : tie.Start) → c .args .product + 1 ≤ 16
+place c = omega (arith, counts _ _ (c .pre .0) .products)
+
+add-s : tie.Need-add-s
+unfolding inventoryOf
+add-s c = omega (arith, c .before .before .before .before .before .before .pre .3 .inventory-most _ (c .before .before .before .before .before .before .pre .1))
+
+returns : tie.Need-returns
+unfolding slotDone inventoryOf withInventory withWeek withProfit withMounted
+returns c =
+    let clocked = c .before .before .before .before .before .before .before in
+    let made = clocked .before .before .before in
+    let over = made .before .before in
+    rw (← (clocked .clock-after .ensures), ← (over .changeover-to .ensures .cents), ← (c .before .before .before .before .before .pay .ensures))
+    (rw (← (made .before .rate .ensures .0), ← (made .produced .ensures .0)))
+
+pub slot-done-spec : {M : Type 1} → statement M
+slot-done-spec =
+    tie.close
+    (tie.spec
+    (λ c κs. search needs)
+    (λ c κs. search needs)
+    (λ c κs. search needs)
+    (λ c. search needs)
+    (λ c. omega (arith, place (c .before .before .before .before)))
+    add-s
+    (λ c. search needs)
+    (λ c. omega (arith, place (c .before .before .before .before .before .before)))
+    (λ c. omega (arith, place (c .before .before .before .before .before .before)))
+    (λ c κs. search needs)
+    (λ c. search needs)
+    (λ c κs. search needs)
+    (λ c. omega (arith, place (c .before .before .before .before .before .before .before .before .before)))
+    returns)

@@ -1,0 +1,27 @@
+-- The bytes of a table: how many there are, and that they follow from its numbers. Assumes nothing.
+use Prim.Native.Nat.{ℕ, _*_, _<_}
+use mathlib.Core.Path.{_≡_, ap, _∙_, sym}
+use native.Mathlib.Nat.{mul-left-comm, mul-assoc}
+use lib.ListN.{length}
+use Rattle.mathematics.proofs.Join.{even-length, join-ext}
+use Rattle.numbers.proofs.Number.{encode-length, encode-ext}
+use Rattle.sections.specs.Section.{grid, cube}
+
+pub grid-length : (k m n : ℕ) (f : ℕ → ℕ → ℕ) → length (grid k m n f) ≡ k * (m * n)
+unfolding grid
+grid-length k m n f = even-length m (k * n) _ (λ i. encode-length k n (f i)) ∙ mul-left-comm m k n
+
+pub cube-length : (k l m n : ℕ) (f : ℕ → ℕ → ℕ → ℕ) → length (cube k l m n f) ≡ k * (l * m * n)
+unfolding cube
+cube-length k l m n f =
+    even-length l (k * (m * n)) _ (λ h. grid-length k m n (f h)) ∙ (mul-left-comm l k (m * n) ∙ ap (λ (x : ℕ). k * x) (sym (mul-assoc l m n)))
+
+-- tables with the same numbers have the same bytes
+pub grid-ext : (k m n : ℕ) (f g : ℕ → ℕ → ℕ) → ((i j : ℕ) → i < m → j < n → f i j ≡ g i j) → grid k m n f ≡ grid k m n g
+unfolding grid
+grid-ext k m n f g h = join-ext m _ _ (λ i p. encode-ext k n (f i) (g i) (λ j q. h i j p q))
+
+pub cube-ext : (k l m n : ℕ) (f g : ℕ → ℕ → ℕ → ℕ) → ((h i j : ℕ) → h < l → i < m → j < n → f h i j ≡ g h i j)
+    → cube k l m n f ≡ cube k l m n g
+unfolding cube
+cube-ext k l m n f g e = join-ext l _ _ (λ h o. grid-ext k m n (f h) (g h) (λ i j p q. e h i j o p q))

@@ -13,6 +13,7 @@ use Rattle.mathematics.proofs.Join.{join-ext, join-cuts}
 use Rattle.numbers.specs.Number.{Bytes, numberAt, digits, part}
 use Rattle.numbers.proofs.Number.{digits-number}
 use Rattle.numbers.proofs.Store.{part-length}
+use Rattle.numbers.proofs.ByteLists.{bytes-append, bytes-join, bytes-digits}
 use Rattle.contents.specs.Contents.{entryAt, entry, offset, extent}
 use Rattle.contents.specs.File.{start, entryBytes, contentsBytes, fileOf}
 use Rattle.contents.proofs.Facts.{Headed, Placed, offset-sum, total, fits}
@@ -89,3 +90,25 @@ module _ (s : List ℕ) (kind first count : ℕ) (b : Bytes s) (h : Headed s kin
       let both = part-add s 0 (2 + 9 * count) (sumBelow count (extent s)) in
       sym ((λ u. contents u ++ all u) ∙ (sym (rw (zero-add (2 + 9 * count)) at both)
       ∙ (ap (part s 0) (total s count p) ∙ take-length s)))
+
+-- a file of bodies that are bytes is a list of bytes
+entry-bytes : (first : ℕ) (lengths : List ℕ) (i : ℕ) → Bytes (entryBytes first lengths i)
+unfolding entryBytes
+entry-bytes first lengths i =
+    let o = digits 4 (start lengths i) in
+    let x = digits 4 (getD lengths i 0) in
+    bytes-append (digits 1 (first + i)) (o ++ x) (bytes-digits 1 (first + i)) (bytes-append o x (bytes-digits 4 (start lengths i)) (bytes-digits 4 (getD lengths i 0)))
+
+contents-bytes : (kind first : ℕ) (lengths : List ℕ) → Bytes (contentsBytes kind first lengths)
+unfolding contentsBytes
+contents-bytes kind first lengths =
+    let n = length lengths in
+    let e = joinBelow n (entryBytes first lengths) in
+    bytes-append (digits 1 kind) (digits 1 n ++ e) (bytes-digits 1 kind)
+    (bytes-append (digits 1 n) e (bytes-digits 1 n) (bytes-join n (entryBytes first lengths) (entry-bytes first lengths)))
+
+pub file-bytes : (kind first : ℕ) (bodies : List (List ℕ)) → ((i : ℕ) → Bytes (getD bodies i [])) → Bytes (fileOf kind first bodies)
+unfolding fileOf
+file-bytes kind first bodies h =
+    bytes-append (contentsBytes kind first (map length bodies)) (joinBelow (length bodies) (λ i. getD bodies i []))
+    (contents-bytes kind first (map length bodies)) (bytes-join (length bodies) (λ i. getD bodies i []) h)

@@ -82,6 +82,9 @@ row-at base (suc n) f l h k r = elim (ℕ-discrete k n) [
       ∙ row-at base n f l (omega arith) k (omega arith)
 ]
 
+pub row-first : (n : ℕ) (f : ℕ → ℕ → ℕ) (l : List ℕ) → n ≤ length l → (k : ℕ) → k < n → getD (updateRow 0 n f l) k 0 ≡ f k (getD l k 0)
+row-first n f l h k r = rw zero-add at (row-at 0 n f l (omega arith) k r)
+
 -- a row in two parts
 row-add : (m n : ℕ) (f : ℕ → ℕ → ℕ) (l : List ℕ) → updateRow 0 (m + n) f l ≡ updateRow m n (λ i v. f (m + i) v) (updateRow 0 m f l)
 row-add m zero f l = rw add-zero
@@ -105,5 +108,5 @@ rows-past m n f l k h = rw (rows-flat m n f l) (row-past 0 (m * n) (λ j. f (j /
 pub rows-at : (m n : ℕ) (f : ℕ → ℕ → ℕ → ℕ) (l : List ℕ) → m * n ≤ length l → (c i : ℕ) → c < m → i < n
     → getD (updateRows m n f l) (c * n + i) 0 ≡ f c i (getD l (c * n + i) 0)
 rows-at m n f l h c i p q =
-    let e = row-at 0 (m * n) (λ k. f (k / n) (k % n)) l (omega arith) (c * n + i) (table-below p q) in
-    rw (rows-flat m n f l) ((rw zero-add at e) ∙ (λ u. f (row-of c q u) (column-of c q u) (getD l (c * n + i) 0)))
+    rw (rows-flat m n f l)
+    (row-first (m * n) (λ k. f (k / n) (k % n)) l h (c * n + i) (table-below p q) ∙ (λ u. f (row-of c q u) (column-of c q u) (getD l (c * n + i) 0)))

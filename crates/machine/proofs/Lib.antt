@@ -1,4 +1,8 @@
 pub mod Signed
 pub mod Plants
-pub mod Steps
 pub mod Flat
+pub mod Stores
+pub mod PairTables
+pub mod Steps
+pub mod Runs
+pub mod Sanity

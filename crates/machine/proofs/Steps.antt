@@ -1,13 +1,30 @@
--- How a slot ends, by its tests. Assumes nothing.
+-- How a slot and the end of a week end, by their tests, and what the week's tests say of each product. Assumes nothing.
 use Prim.Native.Nat.{ℕ, _≤_, _<_}
-use mathlib.Core.Path.{_≡_}
-use mathlib.Core.Bool.{true, false}
-use borrow.Author.Tests.{lt-ltb, le-ltb}
+use mathlib.Core.Path.{_≡_, refl, sym, ap}
+use mathlib.Core.Bool.{Bool, true, false, not}
+use native.Mathlib.Omega.{arith}
+use lib.Dec.{leb, ltb}
+use borrow.Author.Tests.{lt-ltb, le-ltb, ltb-false, leb-true, not-false}
+use Rattle.mathematics.specs.Below.{within}
+use Rattle.mathematics.proofs.Below.{all-each, within-at}
 use Rattle.plant_file.specs.Plant.{Plant}
 use Rattle.slot_file.specs.Slots.{Slot}
 use Rattle.machine.specs.declared.State.{State}
-use Rattle.machine.specs.State.{hasRun, continues, stops}
+use Rattle.machine.specs.declared.Step.{Step}
+use Rattle.machine.specs.declared.Outcome.the-variants.{Continues, Stops}
+use Rattle.machine.specs.State.{inventoryOf, backlogOf, hasRun, withInventory, continues, stops, stopIf}
 use Rattle.machine.specs.Machine.{clockAfter, slotDone, slotStep}
+use Rattle.machine.specs.Machine.{soldOf, salesDue, salesInStock, inventoryAfter, storageKept, weekDone, weekEnd}
+
+-- a step that continues has passed its tests
+if-goes : (b : Bool) (n : ℕ) (s : State) (r : Step) (t : State) → stopIf b n s r ≡ continues t → (b ≡ false) × (r ≡ continues t)
+if-goes true n s r t e =
+    let o : Stops n ≡ Continues = ap (λ (x : Step). x .outcome) e in
+    absurd (let z : _≡_ {A = ℕ} 0 1 = cc in omega arith)
+if-goes false n s r t e = (refl, e)
+
+continued : {s t : State} → continues s ≡ continues t → t ≡ s
+continued e = sym (ap (λ (x : Step). x .state) e)
 
 module _ (P : Plant) (x : Slot) (s : State) where
   pub slot-twice : hasRun s (x .product) ≡ true → slotStep P x s ≡ stops s 25
@@ -26,3 +43,53 @@ module _ (P : Plant) (x : Slot) (s : State) where
       → slotStep P x s ≡ continues (slotDone P x s)
   unfolding slotStep
   slot-goes h l m = rw (h, le-ltb _ _ l, le-ltb _ _ m)
+
+  pub slot-went : (t : State) → slotStep P x s ≡ continues t → (t ≡ slotDone P x s) × (clockAfter P x s ≤ P .weekMinutes)
+  unfolding slotStep
+  slot-went t e =
+      let a = if-goes (hasRun s (x .product)) 25 s _ t e in
+      let b = if-goes (ltb (x .minutes) (P .shortestRun)) 35 s _ t (a .1) in
+      let d = if-goes (ltb (P .weekMinutes) (clockAfter P x s)) 36 s _ t (b .1) in
+      (continued (d .1), ltb-false _ _ (d .0))
+
+module _ (P : Plant) (w : ℕ) (sales : ℕ → ℕ → ℕ) (s : State) where
+  pub week-undue : salesDue P w sales s ≡ false → weekEnd P w sales s ≡ stops s 38
+  unfolding weekEnd
+  week-undue a = rw a
+
+  pub week-unstocked : salesDue P w sales s ≡ true → salesInStock P sales s ≡ false → weekEnd P w sales s ≡ stops s 39
+  unfolding weekEnd
+  week-unstocked a b = rw (a, b)
+
+  pub week-unkept : salesDue P w sales s ≡ true → salesInStock P sales s ≡ true → storageKept P (inventoryAfter P sales s) ≡ false
+      → weekEnd P w sales s ≡ stops s 40
+  unfolding weekEnd
+  week-unkept a b k = rw (a, b, k)
+
+  pub week-goes : salesDue P w sales s ≡ true → salesInStock P sales s ≡ true → storageKept P (inventoryAfter P sales s) ≡ true
+      → weekEnd P w sales s ≡ continues (weekDone P w sales s)
+  unfolding weekEnd
+  week-goes a b k = rw (a, b, k)
+
+  pub week-went : (t : State) → weekEnd P w sales s ≡ continues t → (t ≡ weekDone P w sales s) × (storageKept P (inventoryAfter P sales s) ≡ true)
+  unfolding weekEnd
+  week-went t e =
+      let a = if-goes (not (salesDue P w sales s)) 38 s _ t e in
+      let b = if-goes (not (salesInStock P sales s)) 39 s _ t (a .1) in
+      let d = if-goes (not (storageKept P (inventoryAfter P sales s))) 40 s _ t (b .1) in
+      (continued (d .1), not-false _ (d .0))
+
+module _ (P : Plant) (s : State) where
+  -- what is sold leaves the backlog as it is
+  pub due-sold : (w : ℕ) (sales : ℕ → ℕ → ℕ) → salesDue P w sales (inventoryAfter P sales s) ≡ salesDue P w sales s
+  unfolding salesDue inventoryAfter withInventory backlogOf
+  due-sold w sales = refl
+
+  pub stock-at : (sales : ℕ → ℕ → ℕ) → salesInStock P sales s ≡ true → (i : ℕ) → i < P .products → soldOf P sales i ≤ inventoryOf s i
+  unfolding salesInStock
+  stock-at sales h i l = leb-true _ _ (all-each (P .products) (λ j. leb (soldOf P sales j) (inventoryOf s j)) h i l)
+
+  pub storage-at : storageKept P s ≡ true → (i : ℕ) → i < P .products → (P .leastStorage i ≤ inventoryOf s i) × (inventoryOf s i ≤ P .greatestStorage i)
+  unfolding storageKept
+  storage-at h i l =
+      within-at _ _ _ (all-each (P .products) (λ j. within (P .leastStorage j) (P .greatestStorage j) (inventoryOf s j)) h i l)

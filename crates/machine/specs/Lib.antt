@@ -2,3 +2,4 @@ pub mod State
 pub mod Machine
 pub mod Run
 pub mod Bounds
+pub mod Files

@@ -1,21 +1,46 @@
 // The plant machine: its state, and its three steps as methods by value. Each gives the whole state back, with a stop or without; at a
 // stop it is the state from before the step.
 ghost use mathlib.Core.Path.{_≡_};
+ghost use mathlib.Core.Bool.{true};
 ghost use Prim.Native.Nat.{_+_, _*_, _^_, _≤_, _<_};
+ghost use Rattle.mathematics.specs.Below.{sumBelow};
 ghost use lib.IntN.{pos, _+ℤ_, _-ℤ_};
+ghost use lib.ListN.{replicate};
 ghost use lib.Signed.{mag};
 ghost use Rattle.sections.specs.declared.Form.the-variants.{Good};
 ghost use Rattle.plant_file.specs.Plant.{plantOf};
 ghost use Rattle.plant_file.specs.Form.{plantForm};
+ghost use Rattle.slot_file.specs.Slots.{slotsBefore, slotsOf};
+ghost use Rattle.slot_file.specs.Form.{slotForm};
 ghost use Rattle.machine.specs.Machine.{weekBegin, clockAfter, slotDone, slotStep};
-ghost use Rattle.machine.specs.Bounds.{mountedBelow, Looked, Roomy};
+ghost use Rattle.machine.specs.Machine.{salesDue, backlogAfter, salesInStock, inventoryAfter, storageKept, booked, weekEnd};
+ghost use Rattle.machine.specs.State.{updateRow, updateRows};
+ghost use Rattle.machine.specs.Run.{opening, runSlots, runWeek, run};
+ghost use Rattle.machine.specs.Files.{salesOf, revenueOf, backlogChargeOf, inventoryChargeOf, Readable};
+ghost use Rattle.machine.specs.Bounds.{mountedBelow, Looked, Sane, Roomy};
+use numbers::and;
 use numbers::count;
+use numbers::inside;
 use plant_file::changeover_cents;
 use plant_file::changeover_minutes;
+use plant_file::greatest_storage;
+use plant_file::inventory_cost;
+use plant_file::least_storage;
+use plant_file::opening_inventory;
+use plant_file::pair_backlog_cost;
+use plant_file::pair_demand;
+use plant_file::pair_opening_backlog;
+use plant_file::pair_price;
 use plant_file::rate;
 use plant_file::shortest_run;
 use plant_file::week_minutes;
 use sections::Shape;
+use sections::area;
+use slot_file::pair_sales;
+use slot_file::sales;
+use slot_file::slot_count;
+use slot_file::slot_minutes;
+use slot_file::slot_product;
 
 // Time.
 pub struct Minutes(pub u64);
@@ -113,6 +138,36 @@ pub fn pay(profit: Profit, amount: u64) -> Profit
     Profit(profit.0 - (amount as i64))
 }
 
+// A product's sales in a week, over the customers.
+fn sold_of(slots: &[u8], f: Shape, product: usize, week: usize) -> u64
+    requires { ⌜ (slotForm f (now slots) ≡ Good f) × (product < f .products) × (week < f .weeks) ⌝ }
+    ensures { λ r. ⌜ r ≡ sumBelow (f .customers) (λ c. salesOf f (now (slots .entry)) week c product) ⌝ }
+{
+    let customers = count(f.customers);
+    let mut sum = 0;
+    let mut customer = 0;
+    while customer < customers {
+        sum += sales(slots, f, customer, product, week);
+        customer += 1;
+    }
+    sum
+}
+
+// What a week's sales bring.
+fn revenue(plant: &[u8], slots: &[u8], f: Shape, week: usize) -> u64
+    requires { ⌜ Readable f (now plant) (now slots) week ⌝ }
+    ensures { λ r. ⌜ (r ≡ revenueOf (plantOf f (now (plant .entry))) (salesOf f (now (slots .entry)) week)) × (r ≤ 60000000000000000) ⌝ }
+{
+    let pairs = area(f.customers, f.products);
+    let mut sum = 0;
+    let mut pair = 0;
+    while pair < pairs {
+        sum += pair_price(plant, f, pair) * pair_sales(slots, f, pair, week);
+        pair += 1;
+    }
+    sum
+}
+
 impl State {
     // Clock 0, no product run.
     pub fn week_begin(self) -> State
@@ -183,5 +238,275 @@ impl State {
             state,
             outcome: Outcome::Continues,
         }
+    }
+
+    // No sale exceeds the backlog and the demand.
+    fn sales_due(self, plant: &[u8], slots: &[u8], f: Shape, week: usize) -> bool
+        requires { ⌜ Readable f (now plant) (now slots) week × Roomy f self ⌝ }
+        ensures { λ r. ⌜ r ≡ salesDue (plantOf f (now (plant .entry))) week (salesOf f (now (slots .entry)) week) self ⌝ }
+    {
+        let s = self;
+        let pairs = area(f.customers, f.products);
+        let mut ok = true;
+        let mut pair = 0;
+        while pair < pairs {
+            let due = s.backlog[pair] + pair_demand(plant, f, pair, week);
+            ok = and(ok, pair_sales(slots, f, pair, week) <= due);
+            pair += 1;
+        }
+        ok
+    }
+
+    // No product's sales exceed its inventory.
+    fn sales_in_stock(self, plant: &[u8], slots: &[u8], f: Shape, week: usize) -> bool
+        requires { ⌜ Readable f (now plant) (now slots) week ⌝ }
+        ensures { λ r. ⌜ r ≡ salesInStock (plantOf f (now (plant .entry))) (salesOf f (now (slots .entry)) week) self ⌝ }
+    {
+        let s = self;
+        let products = count(f.products);
+        let mut ok = true;
+        let mut product = 0;
+        while product < products {
+            ok = and(ok, sold_of(slots, f, product, week) <= s.inventory[product]);
+            product += 1;
+        }
+        ok
+    }
+
+    // No inventory is outside its limits.
+    fn storage_kept(self, plant: &[u8], f: Shape) -> bool
+        requires { ⌜ plantForm (now plant) ≡ Good f ⌝ }
+        ensures { λ r. ⌜ r ≡ storageKept (plantOf f (now (plant .entry))) self ⌝ }
+    {
+        let s = self;
+        let products = count(f.products);
+        let mut ok = true;
+        let mut product = 0;
+        while product < products {
+            let least = least_storage(plant, f, product);
+            let greatest = greatest_storage(plant, f, product);
+            ok = and(ok, inside(least, greatest, s.inventory[product]));
+            product += 1;
+        }
+        ok
+    }
+
+    // The sales taken from the inventory.
+    fn inventory_after(self, plant: &[u8], slots: &[u8], f: Shape, week: usize) -> State
+        requires { ⌜ Readable f (now plant) (now slots) week × (salesInStock (plantOf f (now plant)) (salesOf f (now slots) week) self ≡ true) ⌝ }
+        ensures { λ r. ⌜ r ≡ inventoryAfter (plantOf f (now (plant .entry))) (salesOf f (now (slots .entry)) week) self ⌝ }
+    {
+        let mut s = self;
+        let products = count(f.products);
+        let mut product = 0;
+        while product < products {
+            s.inventory[product] = s.inventory[product] - sold_of(slots, f, product, week);
+            product += 1;
+        }
+        s
+    }
+
+    // The demand added to the backlog, and the sales taken from it.
+    fn backlog_after(self, plant: &[u8], slots: &[u8], f: Shape, week: usize) -> State
+        requires { ⌜ Readable f (now plant) (now slots) week × Roomy f self × (salesDue (plantOf f (now plant)) week (salesOf f (now slots) week) self ≡ true) ⌝ }
+        ensures { λ r. ⌜ r ≡ backlogAfter (plantOf f (now (plant .entry))) week (salesOf f (now (slots .entry)) week) self ⌝ }
+    {
+        let mut s = self;
+        let pairs = area(f.customers, f.products);
+        let mut pair = 0;
+        while pair < pairs {
+            let due = s.backlog[pair] + pair_demand(plant, f, pair, week);
+            s.backlog[pair] = due - pair_sales(slots, f, pair, week);
+            pair += 1;
+        }
+        s
+    }
+
+    // What the backlog costs for a week.
+    fn backlog_charge(self, plant: &[u8], f: Shape) -> u64
+        requires { ⌜ (plantForm (now plant) ≡ Good f) × Roomy f self ⌝ }
+        ensures { λ r. ⌜ (r ≡ backlogChargeOf (plantOf f (now (plant .entry))) self) × (r ≤ 60000000000000000) ⌝ }
+    {
+        let s = self;
+        let pairs = area(f.customers, f.products);
+        let mut sum = 0;
+        let mut pair = 0;
+        while pair < pairs {
+            sum += pair_backlog_cost(plant, f, pair) * s.backlog[pair];
+            pair += 1;
+        }
+        sum
+    }
+
+    // What the inventory costs for a week.
+    fn inventory_charge(self, plant: &[u8], f: Shape) -> u64
+        requires { ⌜ (plantForm (now plant) ≡ Good f) × Roomy f self ⌝ }
+        ensures { λ r. ⌜ (r ≡ inventoryChargeOf (plantOf f (now (plant .entry))) self) × (r ≤ 60000000000000000) ⌝ }
+    {
+        let s = self;
+        let products = count(f.products);
+        let mut sum = 0;
+        let mut product = 0;
+        while product < products {
+            sum += inventory_cost(plant, f, product) * s.inventory[product];
+            product += 1;
+        }
+        sum
+    }
+
+    // The week's amounts booked to the profit.
+    fn booked(self, plant: &[u8], slots: &[u8], f: Shape, week: usize) -> State
+        requires { ⌜ Readable f (now plant) (now slots) week × Roomy f self ⌝ }
+        ensures { λ r. ⌜ r ≡ booked (plantOf f (now (plant .entry))) (salesOf f (now (slots .entry)) week) self ⌝ }
+    {
+        let mut s = self;
+        let gains = revenue(plant, slots, f, week);
+        let late = self.backlog_charge(plant, f);
+        let held = self.inventory_charge(plant, f);
+        s.profit = pay(pay(gain(self.profit, gains), late), held);
+        s
+    }
+
+    // The end of a week: stop 38, 39 or 40, or the state after it.
+    pub fn week_end(self, plant: &[u8], slots: &[u8], f: Shape, week: usize) -> Step
+        requires { ⌜ Readable f (now plant) (now slots) week × Sane f week 16 self ⌝ }
+        ensures { λ r. ⌜ r ≡ weekEnd (plantOf f (now (plant .entry))) week (salesOf f (now (slots .entry)) week) self ⌝ }
+    {
+        if !self.sales_due(plant, slots, f, week) {
+            return Step {
+                state: self,
+                outcome: Outcome::Stops(38),
+            };
+        }
+        if !self.sales_in_stock(plant, slots, f, week) {
+            return Step {
+                state: self,
+                outcome: Outcome::Stops(39),
+            };
+        }
+        let sold = self.inventory_after(plant, slots, f, week);
+        if !sold.storage_kept(plant, f) {
+            return Step {
+                state: self,
+                outcome: Outcome::Stops(40),
+            };
+        }
+        let owing = sold.backlog_after(plant, slots, f, week);
+        let state = owing.booked(plant, slots, f, week);
+        Step {
+            state,
+            outcome: Outcome::Continues,
+        }
+    }
+
+    // The week's slots in their order, the first of them slot `first` of all; the first stop ends the run.
+    pub fn run_slots(self, plant: &[u8], slots: &[u8], f: Shape, week: usize, first: usize) -> Step
+        requires { ⌜ Readable f (now plant) (now slots) week × (first ≡ slotsBefore (now slots) week) × Sane f week 0 self ⌝ }
+        ensures { λ r. ⌜ r ≡ runSlots (plantOf f (now (plant .entry))) (slotsOf f (now (slots .entry)) .line .week week) self ⌝ }
+    {
+        let total = slot_count(slots, f, week);
+        let mut s = self;
+        let mut k = 0;
+        while k < total {
+            let j = first + k;
+            let product = slot_product(slots, f, j);
+            let time = Minutes(slot_minutes(slots, f, j));
+            let r = s.slot(plant, f, product, time);
+            let outcome = r.outcome;
+            if let Outcome::Stops(_) = outcome {
+                return r;
+            }
+            s = r.state;
+            k += 1;
+        }
+        Step {
+            state: s,
+            outcome: Outcome::Continues,
+        }
+    }
+
+    // A week: it begins, its slots run, it ends.
+    pub fn run_week(self, plant: &[u8], slots: &[u8], f: Shape, week: usize, first: usize) -> Step
+        requires { ⌜ Readable f (now plant) (now slots) week × (first ≡ slotsBefore (now slots) week) × Sane f week 0 self ⌝ }
+        ensures { λ r. ⌜ r ≡ runWeek (plantOf f (now (plant .entry))) (slotsOf f (now (slots .entry))) week self ⌝ }
+    {
+        let r = self.week_begin().run_slots(plant, slots, f, week, first);
+        let outcome = r.outcome;
+        if let Outcome::Stops(_) = outcome {
+            return r;
+        }
+        r.state.week_end(plant, slots, f, week)
+    }
+}
+
+// Section 10's inventory, product by product.
+fn opening_row(plant: &[u8], f: Shape) -> [u64; 16]
+    requires { ⌜ plantForm (now plant) ≡ Good f ⌝ }
+    ensures { λ r. ⌜ r ≡ updateRow 0 (f .products) (λ i _. plantOf f (now (plant .entry)) .openingInventory i) (replicate 16 0) ⌝ }
+{
+    let products = count(f.products);
+    let mut row = [0; 16];
+    let mut product = 0;
+    while product < products {
+        row[product] = opening_inventory(plant, f, product);
+        product += 1;
+    }
+    row
+}
+
+// Section 10's backlog, pair by pair.
+fn opening_table(plant: &[u8], f: Shape) -> [u64; 128]
+    requires { ⌜ plantForm (now plant) ≡ Good f ⌝ }
+    ensures { λ r. ⌜ r ≡ updateRows (f .customers) (f .products) (λ c i _. plantOf f (now (plant .entry)) .openingBacklog c i) (replicate 128 0) ⌝ }
+{
+    let pairs = area(f.customers, f.products);
+    let mut table = [0; 128];
+    let mut pair = 0;
+    while pair < pairs {
+        table[pair] = pair_opening_backlog(plant, f, pair);
+        pair += 1;
+    }
+    table
+}
+
+// The state before the first week.
+pub fn opening_state(plant: &[u8], f: Shape) -> State
+    requires { ⌜ plantForm (now plant) ≡ Good f ⌝ }
+    ensures { λ r. ⌜ r ≡ opening (plantOf f (now (plant .entry))) ⌝ }
+{
+    let inventory = opening_row(plant, f);
+    let backlog = opening_table(plant, f);
+    State {
+        inventory,
+        backlog,
+        ran: [false; 16],
+        clock: Minutes(0),
+        profit: Profit(0),
+        mounted: Mounted::Nothing,
+    }
+}
+
+// The run of a slot file; the first stop ends it.
+pub fn run(plant: &[u8], slots: &[u8], f: Shape) -> Step
+    requires { ⌜ (plantForm (now plant) ≡ Good f) × (slotForm f (now slots) ≡ Good f) ⌝ }
+    ensures { λ r. ⌜ r ≡ run (plantOf f (now (plant .entry))) (slotsOf f (now (slots .entry))) ⌝ }
+{
+    let weeks = count(f.weeks);
+    let mut s = opening_state(plant, f);
+    let mut first = 0;
+    let mut week = 0;
+    while week < weeks {
+        let r = s.run_week(plant, slots, f, week, first);
+        let outcome = r.outcome;
+        if let Outcome::Stops(_) = outcome {
+            return r;
+        }
+        s = r.state;
+        first += slot_count(slots, f, week);
+        week += 1;
+    }
+    Step {
+        state: s,
+        outcome: Outcome::Continues,
     }
 }

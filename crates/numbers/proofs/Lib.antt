@@ -1,3 +1,4 @@
 pub mod Store
 pub mod Number
 pub mod TwosComplement
+pub mod ByteLists

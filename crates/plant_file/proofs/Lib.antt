@@ -2,3 +2,4 @@ pub mod Cells
 pub mod PlantReads
 pub mod PlantInRange
 pub mod PlantAccess
+pub mod Pairs

@@ -1,7 +1,7 @@
 // Plant files, kind 1: the rows of refusal, and the numbers of each section.
 ghost use mathlib.Core.Path.{_≡_};
 ghost use mathlib.Core.Bool.{true};
-ghost use Prim.Native.Nat.{_+_, _*_, _≤_, _<_};
+ghost use Prim.Native.Nat.{_+_, _*_, _/_, _%_, _≤_, _<_};
 ghost use lib.ListN.{length};
 ghost use Rattle.contents.specs.Contents.{sized};
 ghost use Rattle.sections.specs.Section.{Holds, Laid};
@@ -321,4 +321,38 @@ pub fn week_minutes(s: &[u8], f: Shape) -> u64
     ensures { λ r. ⌜ (r ≡ plantOf f (now (s .entry)) .weekMinutes) × (r ≤ 10080) ⌝ }
 {
     cell_in(s, 10, 2, 1)
+}
+
+// ---- The tables by customer and product, by pair: customer times the count of products, plus product.
+
+// Grams that a pair's customer wants of its product in a week.
+pub fn pair_demand(s: &[u8], f: Shape, pair: usize, week: usize) -> u64
+    requires { ⌜ (plantForm (now s) ≡ Good f) × (pair < f .customers * f .products) × (week < f .weeks) ⌝ }
+    ensures { λ r. ⌜ (r ≡ plantOf f (now (s .entry)) .demand (pair / f .products) (pair % f .products) week) × (r ≤ 100000000) ⌝ }
+{
+    cell_in(s, 4, 4, pair * count(f.weeks) + week)
+}
+
+// Cents a kilogram that a pair's customer pays for its product.
+pub fn pair_price(s: &[u8], f: Shape, pair: usize) -> u64
+    requires { ⌜ (plantForm (now s) ≡ Good f) × (pair < f .customers * f .products) ⌝ }
+    ensures { λ r. ⌜ (r ≡ plantOf f (now (s .entry)) .price (pair / f .products) (pair % f .products)) × (r ≤ 100000) ⌝ }
+{
+    cell_in(s, 5, 4, pair)
+}
+
+// Cents a kilogram and week that a pair's backlog costs.
+pub fn pair_backlog_cost(s: &[u8], f: Shape, pair: usize) -> u64
+    requires { ⌜ (plantForm (now s) ≡ Good f) × (pair < f .customers * f .products) ⌝ }
+    ensures { λ r. ⌜ (r ≡ plantOf f (now (s .entry)) .backlogCost (pair / f .products) (pair % f .products)) × (r ≤ 100000) ⌝ }
+{
+    cell_in(s, 6, 4, pair)
+}
+
+// Grams of a pair's product that its customer is owed before the first week.
+pub fn pair_opening_backlog(s: &[u8], f: Shape, pair: usize) -> u64
+    requires { ⌜ (plantForm (now s) ≡ Good f) × (pair < f .customers * f .products) ⌝ }
+    ensures { λ r. ⌜ (r ≡ plantOf f (now (s .entry)) .openingBacklog (pair / f .products) (pair % f .products)) × (r ≤ 100000000) ⌝ }
+{
+    cell_in(s, 9, 4, count(f.products) + pair)
 }

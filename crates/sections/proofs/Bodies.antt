@@ -4,7 +4,9 @@ use mathlib.Core.Path.{_≡_, ap, _∙_, sym}
 use native.Mathlib.Nat.{mul-left-comm, mul-assoc}
 use lib.ListN.{length}
 use Rattle.mathematics.proofs.Join.{even-length, join-ext}
+use Rattle.numbers.specs.Number.{Bytes, encode}
 use Rattle.numbers.proofs.Number.{encode-length, encode-ext}
+use Rattle.numbers.proofs.ByteLists.{bytes-join, bytes-encode}
 use Rattle.sections.specs.Section.{grid, cube}
 
 pub grid-length : (k m n : ℕ) (f : ℕ → ℕ → ℕ) → length (grid k m n f) ≡ k * (m * n)
@@ -25,3 +27,11 @@ pub cube-ext : (k l m n : ℕ) (f g : ℕ → ℕ → ℕ → ℕ) → ((h i j :
     → cube k l m n f ≡ cube k l m n g
 unfolding cube
 cube-ext k l m n f g e = join-ext l _ _ (λ h o. grid-ext k m n (f h) (g h) (λ i j p q. e h i j o p q))
+
+pub grid-bytes : (k m n : ℕ) (f : ℕ → ℕ → ℕ) → Bytes (grid k m n f)
+unfolding grid
+grid-bytes k m n f = bytes-join m (λ i. encode k n (f i)) (λ i. bytes-encode k n (f i))
+
+pub cube-bytes : (k l m n : ℕ) (f : ℕ → ℕ → ℕ → ℕ) → Bytes (cube k l m n f)
+unfolding cube
+cube-bytes k l m n f = bytes-join l (λ h. grid k m n (f h)) (λ h. grid-bytes k m n (f h))

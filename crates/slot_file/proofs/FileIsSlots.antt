@@ -1,9 +1,9 @@
 -- A LAYOUT OF SLOTS READ BACK: numbers that fit their sections, laid out by `slotFile`, pass rows 21 to 24 and are read again.
 -- Assumes nothing.
-use Prim.Native.Nat.{ℕ, _+_, _*_, _^_, _≤_, _<_}
+use Prim.Native.Nat.{ℕ, zero, suc, _+_, _*_, _^_, _≤_, _<_}
 use mathlib.Core.Path.{_≡_, sym, ap, _∙_}
 use mathlib.Core.Bool.{true}
-use mathlib.Core.List.{List, [], _∷_, map}
+use mathlib.Core.List.{List, [], _∷_, _++_, map}
 use native.Mathlib.Omega.{arith}
 use native.Mathlib.Nat.{add-zero, zero-add, mul-comm, mul-le-mul}
 use lib.ListN.{length, getD}
@@ -12,24 +12,25 @@ use borrow.Author.Tests.{lt-ltb}
 use Rattle.mathematics.specs.Below.{sumBelow, within}
 use Rattle.mathematics.proofs.Below.{sum-ext, sum-mul, sum-mono, sum-const, both-and, each-all, at-within}
 use Rattle.mathematics.proofs.Join.{join-length}
-use Rattle.numbers.specs.Number.{digits, part}
+use Rattle.mathematics.proofs.Lists.{run-of}
+use Rattle.numbers.specs.Number.{Bytes, digits, part}
 use Rattle.numbers.proofs.Number.{encode-length, number-digits}
-use Rattle.numbers.proofs.Store.{part-part}
+use Rattle.numbers.proofs.Store.{part-part, join-at}
+use Rattle.numbers.proofs.ByteLists.{bytes-none, bytes-append, bytes-join, bytes-digits, bytes-encode}
 use Rattle.contents.specs.Contents.{offset, extent, cell, sized}
 use Rattle.contents.specs.File.{start, Listable}
 use Rattle.contents.proofs.Facts.{at-sized}
 use Rattle.contents.proofs.FileWritten as laid
+use Rattle.contents.proofs.FileLayout as layout
 use Rattle.sections.specs.Section.{inRange}
 use Rattle.sections.specs.declared.Shape.{Shape}
 use Rattle.sections.specs.declared.Form.the-variants.{Good}
 use Rattle.sections.proofs.Places.{byte-most}
 use Rattle.sections.proofs.Tables.{section-at, cube-at}
+use Rattle.sections.proofs.Bodies.{cube-length, cube-bytes}
 use Rattle.slot_file.specs.Slots.{Slot, Slots, slotCount, slotAt, slotsBefore, slotsOf, SameSlots, SlotsFit}
 use Rattle.slot_file.specs.Form.{slotLengths, slotsInRange, slotForm}
 use Rattle.slot_file.specs.File.{slotBytes, slotBodies, slotFile}
-use Rattle.sections.proofs.Bodies.{cube-length}
-use Rattle.mathematics.proofs.Lists.{run-of}
-use Rattle.numbers.proofs.Store.{join-at}
 use Rattle.slot_file.proofs.SlotBytes.{noSlot, bytesOf, slot-join, bytes-length}
 use Rattle.slot_file.proofs.SlotPlaces.{slot-listable}
 use Rattle.slot_file.proofs.SlotReads.{week-length, week-slot}
@@ -169,3 +170,22 @@ module _ (f : Shape) (x : Slots) where
         let heads = laid.file-headed 3 41 (slotBodies f x) (omega arith) listable in
         let lies = laid.file-placed 3 41 (slotBodies f x) (omega arith) listable in
         rw (heads, lies, sizes, in-range)
+
+-- the file is a list of bytes
+slots-bytes : (xs : List Slot) → Bytes (slotBytes xs)
+slots-bytes [] = bytes-none
+slots-bytes (x ∷ xs) =
+    let m = digits 2 (x .minutes) in
+    bytes-append (digits 1 (x .product)) (m ++ slotBytes xs) (bytes-digits 1 (x .product))
+    (bytes-append m (slotBytes xs) (bytes-digits 2 (x .minutes)) (slots-bytes xs))
+
+bodies-bytes : (f : Shape) (x : Slots) (i : ℕ) → Bytes (getD (slotBodies f x) i [])
+unfolding slotBodies
+bodies-bytes f x zero = bytes-encode 1 (f .weeks) (λ w. length (x .line .week w))
+bodies-bytes f x (suc zero) = bytes-join (f .weeks) (λ w. slotBytes (x .line .week w)) (λ w. slots-bytes (x .line .week w))
+bodies-bytes f x (suc (suc zero)) = cube-bytes 4 (f .customers) (f .products) (f .weeks) (x .sales)
+bodies-bytes f x (suc (suc (suc i))) = bytes-none
+
+pub file-bytes : (f : Shape) (x : Slots) → Bytes (slotFile f x)
+unfolding slotFile
+file-bytes f x = layout.file-bytes 3 41 (slotBodies f x) (bodies-bytes f x)

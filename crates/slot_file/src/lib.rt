@@ -2,7 +2,7 @@
 ghost use mathlib.Core.Path.{_≡_};
 ghost use mathlib.Core.Bool.{true};
 ghost use mathlib.Core.List.{_++_};
-ghost use Prim.Native.Nat.{_+_, _*_, _≤_, _<_, _^_};
+ghost use Prim.Native.Nat.{_+_, _*_, _/_, _%_, _≤_, _<_, _^_};
 ghost use lib.Dec.{ltb};
 ghost use lib.ListN.{length, getD};
 ghost use Rattle.mathematics.specs.Below.{allBelow};
@@ -168,6 +168,16 @@ pub fn sales(s: &[u8], f: Shape, customer: usize, product: usize, week: usize) -
     let at = e.offset as usize;
     let i = index3(customer, f.customers, product, f.products, week, f.weeks);
     read4(s, at + 4 * i)
+}
+
+// Section 43, by pair (customer times the count of products, plus product): a week's sales of its product to its customer.
+pub fn pair_sales(s: &[u8], f: Shape, pair: usize, week: usize) -> u64
+    requires { ⌜ (slotForm f (now s) ≡ Good f) × (pair < f .customers * f .products) × (week < f .weeks) ⌝ }
+    ensures { λ r. ⌜ (r ≡ slotsOf f (now (s .entry)) .sales (pair / f .products) (pair % f .products) week) × (r < 2 ^ 32) ⌝ }
+{
+    let e = entry_in(s, 2);
+    let at = e.offset as usize;
+    read4(s, at + 4 * (pair * count(f.weeks) + week))
 }
 
 // Where the body in a place begins, of a slot file with `total` slots; in place 3, the file's length.

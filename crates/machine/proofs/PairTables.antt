@@ -1,0 +1,63 @@
+-- The week's tests, updates and amounts over customers and products, by pair: customer times the count of products, plus product.
+-- Assumes nothing.
+use Prim.Native.Nat.{ℕ, _+_, _*_, _-_, _/_, _%_, _<_, _≤_}
+use mathlib.Core.Path.{_≡_, sym, ap, _∙_}
+use mathlib.Core.Bool.{Bool, true}
+use native.Mathlib.Nat.{div-add-mod'}
+use lib.Dec.{leb}
+use lib.ListN.{getD}
+use borrow.Author.Tests.{leb-true}
+use Rattle.mathematics.specs.Below.{sumBelow, allBelow}
+use Rattle.mathematics.proofs.Below.{sum-ext, all-each}
+use Rattle.plant_file.specs.Plant.{Plant}
+use Rattle.machine.specs.declared.State.{State}
+use Rattle.machine.specs.State.{backlogOf, withBacklog, updateRow}
+use Rattle.machine.specs.Machine.{salesDue, backlogAfter}
+use Rattle.machine.specs.Files.{revenueOf, backlogChargeOf}
+use Rattle.machine.proofs.Flat.{all-ext, all-table, sum-table, rows-flat}
+
+-- of n products
+module _ (n : ℕ) (P : Plant) where
+  abbrev pub dueAt : ℕ → (ℕ → ℕ → ℕ) → State → ℕ → Bool
+  dueAt w sales s k = leb (sales (k / n) (k % n)) (getD (s .backlog) k 0 + P .demand (k / n) (k % n) w)
+
+  abbrev pub owedAt : ℕ → (ℕ → ℕ → ℕ) → ℕ → ℕ → ℕ
+  owedAt w sales k owed = owed + P .demand (k / n) (k % n) w - sales (k / n) (k % n)
+
+  abbrev pub revenueAt : (ℕ → ℕ → ℕ) → ℕ → ℕ
+  revenueAt sales k = P .price (k / n) (k % n) * sales (k / n) (k % n)
+
+  abbrev pub chargeAt : State → ℕ → ℕ
+  chargeAt s k = P .backlogCost (k / n) (k % n) * getD (s .backlog) k 0
+
+-- the backlog of a pair
+pub owed-at : (n : ℕ) (s : State) (k : ℕ) → backlogOf n s (k / n) (k % n) ≡ getD (s .backlog) k 0
+unfolding backlogOf
+owed-at n s k = ap (λ (j : ℕ). getD (s .backlog) j 0) (div-add-mod' k n)
+
+module _ (P : Plant) (s : State) where
+  pub due-flat : (w : ℕ) (sales : ℕ → ℕ → ℕ) → salesDue P w sales s ≡ allBelow (P .customers * P .products) (dueAt (P .products) P w sales s)
+  unfolding salesDue
+  due-flat w sales =
+      let n = P .products in
+      all-table (P .customers) n (λ c i. leb (sales c i) (backlogOf n s c i + P .demand c i w))
+      ∙ all-ext (P .customers * n) _ (dueAt n P w sales s) (λ k l. rw (owed-at n s k))
+
+  -- where no sale exceeds backlog plus demand, none of a pair does
+  pub due-at : (w : ℕ) (sales : ℕ → ℕ → ℕ) → salesDue P w sales s ≡ true → (k : ℕ) → k < P .customers * P .products
+      → sales (k / P .products) (k % P .products) ≤ getD (s .backlog) k 0 + P .demand (k / P .products) (k % P .products) w
+  due-at w sales h k l = leb-true _ _ (all-each _ (dueAt (P .products) P w sales s) (sym (due-flat w sales) ∙ h) k l)
+
+  pub backlog-flat : (w : ℕ) (sales : ℕ → ℕ → ℕ)
+      → backlogAfter P w sales s ≡ withBacklog s (updateRow 0 (P .customers * P .products) (owedAt (P .products) P w sales) (s .backlog))
+  unfolding backlogAfter
+  backlog-flat w sales = ap (withBacklog s) (rows-flat (P .customers) (P .products) (λ c i owed. owed + P .demand c i w - sales c i) (s .backlog))
+
+  pub charge-flat : backlogChargeOf P s ≡ sumBelow (P .customers * P .products) (chargeAt (P .products) P s)
+  charge-flat =
+      let n = P .products in
+      sum-table (P .customers) n (λ c i. P .backlogCost c i * backlogOf n s c i)
+      ∙ sum-ext (P .customers * n) _ (chargeAt n P s) (λ k l. rw (owed-at n s k))
+
+pub revenue-flat : (P : Plant) (sales : ℕ → ℕ → ℕ) → revenueOf P sales ≡ sumBelow (P .customers * P .products) (revenueAt (P .products) P sales)
+revenue-flat P sales = sum-table (P .customers) (P .products) (λ c i. P .price c i * sales c i)

@@ -1,0 +1,80 @@
+-- A run, one step at a time: what is left to run, before and after a step. Assumes nothing.
+use Prim.Native.Nat.{ℕ, zero, suc, _+_, _-_, _≤_, _<_}
+use mathlib.Core.Path.{_≡_, refl, sym, ap, _∙_}
+use mathlib.Core.List.{List, [], _∷_}
+use native.Mathlib.Omega.{arith}
+use native.Mathlib.Numerals.{add-one}
+use lib.ListN.{length, getD, drop}
+use lib.Seq.{drop-cons, drop-length}
+use Rattle.plant_file.specs.Plant.{Plant}
+use Rattle.slot_file.specs.Slots.{Slot, Slots}
+use Rattle.machine.specs.declared.Outcome.{Outcome}
+use Rattle.machine.specs.declared.Outcome.the-variants.{Continues, Stops}
+use Rattle.machine.specs.declared.State.{State}
+use Rattle.machine.specs.declared.Step.{Step}
+use Rattle.machine.specs.State.{continues, onward, andThen}
+use Rattle.machine.specs.Machine.{weekBegin, slotStep, weekEnd}
+use Rattle.machine.specs.Run.{runSlots, runWeek, runWeeks}
+
+-- ---- two steps, one after the other
+pub then-stops : (r : Step) (next : State → Step) (n : ℕ) → r .outcome ≡ Stops n → andThen r next ≡ r
+then-stops r next n e = rw e
+
+pub then-goes : (r : Step) (next : State → Step) → r .outcome ≡ Continues → andThen r next ≡ next (r .state)
+then-goes r next e = rw e
+
+pub went : (r : Step) → r .outcome ≡ Continues → r ≡ continues (r .state)
+went r e = ap {B = Step} (λ (x : Outcome). record { state = r .state; outcome = x }) e
+
+-- where both continue
+pub then-went : (r : Step) (next : State → Step) (t : State) → andThen r next ≡ continues t → (r .outcome ≡ Continues) × (next (r .state) ≡ continues t)
+then-went r next t e = go (r .outcome) refl e
+  where
+    go : (o : Outcome) → r .outcome ≡ o → onward o r (next (r .state)) ≡ continues t → (r .outcome ≡ Continues) × (next (r .state) ≡ continues t)
+    go Continues q h = (q, h)
+    go (Stops n) q h =
+        let a : Stops n ≡ Continues = sym q ∙ ap (λ (x : Step). x .outcome) h in
+        absurd (let z : _≡_ {A = ℕ} 0 1 = cc in omega arith)
+
+-- ---- slots, from slot k of a list on
+pub slot-eta : {p m : ℕ} (x : Slot) → p ≡ x .product → m ≡ x .minutes → _≡_ {A = Slot} (record { product = p; minutes = m }) x
+slot-eta x e f = rw (e, f)
+
+module _ (P : Plant) (xs : List Slot) (k : ℕ) (s : State) where
+  pub slots-end : k ≡ length xs → runSlots P (drop k xs) s ≡ continues s
+  slots-end e = rw (e, drop-length xs)
+
+  module _ (x d : Slot) (r : Step) (l : k < length xs) (at-k : getD xs k d ≡ x) (e : r ≡ slotStep P x s) where
+    next : runSlots P (drop k xs) s ≡ andThen r (runSlots P (drop (k + 1) xs))
+    next = rw (drop-cons xs k d l, at-k, ← e, add-one)
+
+    pub slots-stop : (n : ℕ) → r .outcome ≡ Stops n → runSlots P (drop k xs) s ≡ r
+    slots-stop n q = next ∙ then-stops r (runSlots P (drop (k + 1) xs)) n q
+
+    pub slots-go : r .outcome ≡ Continues → runSlots P (drop k xs) s ≡ runSlots P (drop (k + 1) xs) (r .state)
+    slots-go q = next ∙ then-goes r (runSlots P (drop (k + 1) xs)) q
+
+-- ---- a week, from its slots on
+module _ (P : Plant) (S : Slots) (w : ℕ) (s : State) (r : Step) (e : r ≡ runSlots P (S .line .week w) (weekBegin s)) where
+  pub week-stop : (n : ℕ) → r .outcome ≡ Stops n → runWeek P S w s ≡ r
+  unfolding runWeek
+  week-stop n q = rw (← e) (then-stops r (weekEnd P w (λ c i. S .sales c i w)) n q)
+
+  pub week-go : r .outcome ≡ Continues → runWeek P S w s ≡ weekEnd P w (λ c i. S .sales c i w) (r .state)
+  unfolding runWeek
+  week-go q = rw (← e) (then-goes r (weekEnd P w (λ c i. S .sales c i w)) q)
+
+-- ---- weeks, from week w of n on
+module _ (P : Plant) (S : Slots) (n w : ℕ) (s : State) where
+  pub weeks-end : n ≤ w → runWeeks P S (n - w) w s ≡ continues s
+  weeks-end h = let e : n - w ≡ 0 = omega arith in rw e
+
+  module _ (r : Step) (l : w < n) (e : r ≡ runWeek P S w s) where
+    next-week : runWeeks P S (n - w) w s ≡ andThen r (runWeeks P S (n - (w + 1)) (w + 1))
+    next-week = let q : n - w ≡ suc (n - (w + 1)) = omega arith in rw (q, ← e)
+
+    pub weeks-stop : (m : ℕ) → r .outcome ≡ Stops m → runWeeks P S (n - w) w s ≡ r
+    weeks-stop m q = next-week ∙ then-stops r (runWeeks P S (n - (w + 1)) (w + 1)) m q
+
+    pub weeks-go : r .outcome ≡ Continues → runWeeks P S (n - w) w s ≡ runWeeks P S (n - (w + 1)) (w + 1) (r .state)
+    weeks-go q = next-week ∙ then-goes r (runWeeks P S (n - (w + 1)) (w + 1)) q

@@ -1,0 +1,265 @@
+-- Each step keeps the bounds of `Sane`. Assumes nothing.
+use Prim.Native.Nat.{ℕ, suc, _+_, _*_, _-_, _/_, _%_, _^_, _≤_, _<_}
+use mathlib.Core.Path.{_≡_, refl, sym, ap, _∙_}
+use mathlib.Core.Logic.{_≢_}
+use mathlib.Core.Bool.{true}
+use mathlib.Core.List.{List, [], _∷_}
+use native.Mathlib.Omega.{arith}
+use native.Mathlib.Decide.{ℕ-discrete}
+use native.Mathlib.Nat.{mul-le-mul, mul-le-mul-right, le-trans, add-zero}
+use lib.ListN.{length, getD, set, replicate, length-set}
+use lib.Seq.{getD-set-same, getD-set-other}
+use lib.IntN.{ℤ, pos, _+ℤ_, _-ℤ_}
+use lib.Signed.{mag}
+use Rattle.mathematics.specs.Below.{sumBelow}
+use Rattle.mathematics.proofs.Below.{sum-mono, sum-const}
+use Rattle.sections.specs.declared.Shape.{Shape}
+use Rattle.sections.specs.declared.Form.the-variants.{Good}
+use Rattle.plant_file.specs.Plant.{plantOf}
+use Rattle.plant_file.specs.Form.{plantForm}
+use Rattle.plant_file.specs.Ranges.{PlantRanges}
+use Rattle.plant_file.proofs.Pairs.{pair-of}
+use Rattle.plant_file.proofs.PlantInRange.{plant-ranges}
+use Rattle.slot_file.specs.Slots.{Slot, Slots, SlotsFit}
+use Rattle.machine.specs.declared.Mounted.{Mounted}
+use Rattle.machine.specs.declared.Mounted.the-variants.{Nothing, Product}
+use Rattle.machine.specs.declared.State.{State}
+use Rattle.machine.specs.declared.Step.{Step}
+use Rattle.machine.specs.declared.Outcome.the-variants.{Continues}
+use Rattle.machine.specs.State.{inventoryOf, backlogOf, withInventory, withBacklog, withWeek, withProfit, withMounted, continues}
+use Rattle.machine.specs.Machine.{changeoverTo, weekBegin, clockAfter, slotDone, slotStep, soldOf}
+use Rattle.machine.specs.Machine.{inventoryAfter, backlogAfter, storageKept, booked, weekDone, weekEnd}
+use Rattle.machine.specs.Run.{opening, runSlots, runWeek}
+use Rattle.machine.specs.Files.{revenueOf, backlogChargeOf, inventoryChargeOf}
+use Rattle.machine.specs.Bounds.{mountedBelow, Sane, Roomy}
+use Rattle.machine.proofs.Signed.{mag-sub, mag-add}
+use Rattle.machine.proofs.Plants.{counts}
+use Rattle.machine.proofs.Flat.{row-length, row-first, rows-length, rows-flat}
+use Rattle.machine.proofs.PairTables.{owedAt, chargeAt, backlog-flat, charge-flat}
+use Rattle.machine.proofs.Steps.{slot-went, week-went, storage-at}
+use Rattle.machine.proofs.Runs.{then-went, went}
+
+-- ---- sums of bounded terms
+sum-most : (n b : ℕ) (g : ℕ → ℕ) → ((i : ℕ) → i < n → g i ≤ b) → sumBelow n g ≤ n * b
+sum-most n b g h = omega (arith, sum-mono n g (λ i. b) h, sum-const n b)
+
+-- of at most m terms
+sum-few : (n m b : ℕ) (g : ℕ → ℕ) → n ≤ m → ((i : ℕ) → i < n → g i ≤ b) → sumBelow n g ≤ m * b
+sum-few n m b g l h = le-trans (sum-most n b g h) (mul-le-mul-right b l)
+
+-- ---- bounds
+pub sane-more : {f : Shape} {w k v j : ℕ} {s : State} → Sane f w k s → w ≤ v → k ≤ j → Sane f v j s
+sane-more {f} {w} {k} {v} {j} {s} h l m =
+    record {
+      inventory-long = h .inventory-long;
+      backlog-long = h .backlog-long;
+      inventory-most = λ i r. omega (arith, h .inventory-most i r);
+      backlog-most = λ i r. omega (arith, h .backlog-most i r);
+      clock-most = h .clock-most;
+      profit-most = omega (arith, h .profit-most);
+      mounted-below = h .mounted-below;
+    }
+
+-- no run is wider
+pub sane-roomy : {f : Shape} {w k : ℕ} {s : State} → Sane f w k s → w ≤ 26 → k ≤ 16 → Roomy f s
+sane-roomy h l m = sane-more h l m
+
+pub begin-sane : {f : Shape} {w k : ℕ} {s : State} → Sane f w k s → Sane f w k (weekBegin s)
+unfolding weekBegin withWeek inventoryOf
+begin-sane h =
+    record {
+      inventory-long = h .inventory-long;
+      backlog-long = h .backlog-long;
+      inventory-most = h .inventory-most;
+      backlog-most = h .backlog-most;
+      clock-most = omega arith;
+      profit-most = h .profit-most;
+      mounted-below = h .mounted-below;
+    }
+
+-- a changeover costs at most what the tables' entries do
+cents-most : (N : ℕ) (table : ℕ → ℕ → ℕ) → ((i j : ℕ) → i < N → j < N → table i j ≤ 1000000) → (m : Mounted) (p : ℕ) → mountedBelow N m → p < N
+    → changeoverTo table m p ≤ 1000000
+cents-most N table h Nothing p a b = omega arith
+cents-most N table h (Product q) p a b = h q p a b
+
+-- one cell stored anew
+set-at-most : (l : List ℕ) (p v b i : ℕ) → p < length l → v ≤ b → (i ≢ p → getD l i 0 ≤ b) → getD (set l p v) i 0 ≤ b
+set-at-most l p v b i r h g = elim (ℕ-discrete i p) [
+  | yes e ↦ rw e (omega (arith, getD-set-same l p v 0 r))
+  | no d ↦ omega (arith, getD-set-other l p i v 0 d, g d)
+]
+
+module _ (plant : List ℕ) (f : Shape) (good : plantForm plant ≡ Good f) where
+  ranges : PlantRanges (plantOf f plant)
+  ranges = plant-ranges plant f good
+
+  -- a slot that does not stop
+  pub slot-sane : {w k : ℕ} {s : State} (x : Slot) → x .product < f .products → Sane f w k s
+      → clockAfter (plantOf f plant) x s ≤ plantOf f plant .weekMinutes → Sane f w (k + 1) (slotDone (plantOf f plant) x s)
+  unfolding plantOf clockAfter slotDone inventoryOf withInventory withWeek withProfit withMounted
+  slot-sane {w} {k} {s} x p h l =
+      let line = plantOf f plant .line in
+      let cents = cents-most (f .products) (line .changeoverCents) (ranges .line .cents-most) (s .mounted) (x .product) (h .mounted-below) p in
+      let m : x .minutes ≤ 10080 = omega (arith, ranges .week-most) in
+      let grams = mul-le-mul (ranges .line .rate-most (x .product) p) m in
+      let room : x .product < length (s .inventory) = omega (arith, h .inventory-long, ranges .products-most) in
+      record {
+        inventory-long = length-set (s .inventory) _ _ ∙ h .inventory-long;
+        backlog-long = h .backlog-long;
+        inventory-most = λ i q.
+            set-at-most (s .inventory) (x .product) _ _ i room (omega (arith, grams, h .inventory-most _ p)) (λ d. omega (arith, h .inventory-most i q));
+        backlog-most = h .backlog-most;
+        clock-most = omega (arith, ranges .week-most);
+        profit-most = omega (arith, mag-sub (s .profit .0) (1000 * changeoverTo (line .changeoverCents) (s .mounted) (x .product)), cents, h .profit-most);
+        mounted-below = p;
+      }
+
+  module _ (sales : ℕ → ℕ → ℕ) where
+    pub inventory-sane : {w k : ℕ} {s : State} → Sane f w k s → Sane f w k (inventoryAfter (plantOf f plant) sales s)
+    unfolding plantOf inventoryAfter withInventory inventoryOf
+    inventory-sane {w} {k} {s} h =
+        let g : ℕ → ℕ → ℕ = λ i stock. stock - soldOf (plantOf f plant) sales i in
+        let room : f .products ≤ length (s .inventory) = omega (arith, h .inventory-long, ranges .products-most) in
+        record {
+          inventory-long = row-length 0 (f .products) g (s .inventory) ∙ h .inventory-long;
+          backlog-long = h .backlog-long;
+          inventory-most = λ i q. omega (arith, row-first (f .products) g (s .inventory) room i q, h .inventory-most i q);
+          backlog-most = h .backlog-most;
+          clock-most = h .clock-most;
+          profit-most = h .profit-most;
+          mounted-below = h .mounted-below;
+        }
+
+    pub backlog-sane : {w k : ℕ} {s : State} → w < f .weeks → Sane f w k s → Sane f (w + 1) k (backlogAfter (plantOf f plant) w sales s)
+    unfolding plantOf withBacklog inventoryOf
+    backlog-sane {w} {k} {s} l h =
+        let n = f .customers * f .products in
+        let g = owedAt (f .products) (plantOf f plant) w sales in
+        let room : n ≤ length (s .backlog) = omega (arith, h .backlog-long, counts plant f good .pairs) in
+        rw (backlog-flat (plantOf f plant) s w sales)
+        (record {
+          inventory-long = h .inventory-long;
+          backlog-long = row-length 0 n g (s .backlog) ∙ h .backlog-long;
+          inventory-most = h .inventory-most;
+          backlog-most = λ j q.
+              let p = pair-of (f .customers) (f .products) j q in
+              omega (arith, row-first n g (s .backlog) room j q, h .backlog-most j q, ranges .demand-most _ _ w (p .row) (p .column) l);
+          clock-most = h .clock-most;
+          profit-most = omega (arith, h .profit-most);
+          mounted-below = h .mounted-below;
+        })
+
+    module _ (small : (c i : ℕ) → c < f .customers → i < f .products → sales c i < 2 ^ 32) where
+      revenue-most : revenueOf (plantOf f plant) sales ≤ 8 * (16 * (100000 * 4294967295))
+      unfolding plantOf
+      revenue-most =
+          let P = plantOf f plant in
+          sum-few (f .customers) 8 (16 * (100000 * 4294967295)) (λ c. sumBelow (f .products) (λ i. P .price c i * sales c i)) (ranges .customers-most)
+          (λ c p. sum-few (f .products) 16 (100000 * 4294967295) (λ i. P .price c i * sales c i) (ranges .products-most)
+          (λ i q. let m : sales c i ≤ 4294967295 = omega (arith, small c i p q) in mul-le-mul (ranges .price-most c i p q) m))
+
+      module _ (w : ℕ) (s : State) (l : w < f .weeks) where
+        backlog-charge-most : Sane f (w + 1) 16 s → backlogChargeOf (plantOf f plant) s ≤ 128 * (100000 * 2700000000)
+        unfolding plantOf
+        backlog-charge-most h =
+            rw (charge-flat (plantOf f plant) s)
+            (sum-few (f .customers * f .products) 128 (100000 * 2700000000) (chargeAt (f .products) (plantOf f plant) s) (counts plant f good .pairs)
+            (λ j q.
+            let p = pair-of (f .customers) (f .products) j q in
+            let m : getD (s .backlog) j 0 ≤ 2700000000 = omega (arith, h .backlog-most j q, ranges .weeks-most) in
+            mul-le-mul (ranges .backlog-cost-most _ _ (p .row) (p .column)) m))
+
+        inventory-charge-most : ((i : ℕ) → i < f .products → inventoryOf s i ≤ 4000000000)
+            → inventoryChargeOf (plantOf f plant) s ≤ 16 * (100000 * 4000000000)
+        unfolding plantOf
+        inventory-charge-most kept =
+            sum-few (f .products) 16 (100000 * 4000000000) (λ i. plantOf f plant .inventoryCost i * inventoryOf s i) (ranges .products-most)
+            (λ i q. mul-le-mul (ranges .inventory-cost-most i q) (kept i q))
+
+        -- the amounts of a week, after its sales and within its storage
+        booked-sane : Sane f (w + 1) 16 s → ((i : ℕ) → i < f .products → inventoryOf s i ≤ 4000000000)
+            → mag (s .profit .0) ≤ w * 120000000000000000 + 16 * 1000000000 → Sane f (w + 1) 0 (booked (plantOf f plant) sales s)
+        unfolding booked withProfit inventoryOf
+        booked-sane h kept z =
+            let gains = revenueOf (plantOf f plant) sales in
+            let late = backlogChargeOf (plantOf f plant) s in
+            let held = inventoryChargeOf (plantOf f plant) s in
+            let gained = s .profit .0 +ℤ pos gains in
+            let moved : mag (gained -ℤ pos late -ℤ pos held) ≤ mag (s .profit .0) + gains + late + held =
+            omega (arith, mag-add (s .profit .0) gains, mag-sub gained late, mag-sub (gained -ℤ pos late) held) in
+            record {
+              inventory-long = h .inventory-long;
+              backlog-long = h .backlog-long;
+              inventory-most = λ i q. omega (arith, kept i q);
+              backlog-most = h .backlog-most;
+              clock-most = h .clock-most;
+              profit-most = omega (arith, revenue-most, backlog-charge-most h, inventory-charge-most kept);
+              mounted-below = h .mounted-below;
+            }
+
+      -- a week's end that does not stop
+      pub week-sane : {w : ℕ} {s : State} → w < f .weeks → Sane f w 16 s
+          → storageKept (plantOf f plant) (inventoryAfter (plantOf f plant) sales s) ≡ true → Sane f (w + 1) 0 (weekDone (plantOf f plant) w sales s)
+      unfolding plantOf weekDone backlogAfter inventoryAfter withBacklog withInventory inventoryOf
+      week-sane {w} {s} l h kept =
+          let P = plantOf f plant in
+          booked-sane w (backlogAfter P w sales (inventoryAfter P sales s)) l (backlog-sane l (inventory-sane h))
+          (λ i q. le-trans (storage-at P (inventoryAfter P sales s) kept i q .1) (ranges .storage-most i q)) (h .profit-most)
+
+  -- a step that continues, by what it gives back
+  pub slot-kept : {w k : ℕ} {s : State} (x : Slot) (r : Step) → x .product < f .products → Sane f w k s → r ≡ slotStep (plantOf f plant) x s
+      → r .outcome ≡ Continues → Sane f w (k + 1) (r .state)
+  slot-kept x r p h e q =
+      let g = slot-went (plantOf f plant) x _ (r .state) (sym e ∙ went r q) in
+      rw (g .0) (slot-sane x p h (g .1))
+
+  -- slots in a row
+  pub slots-kept : {w : ℕ} (xs : List Slot) → ((i : ℕ) → i < length xs → getD xs i (record { product = 0; minutes = 0 }) .product < f .products)
+      → (k : ℕ) (s t : State) → Sane f w k s → runSlots (plantOf f plant) xs s ≡ continues t → Sane f w (k + length xs) t
+  slots-kept [] known k s t h e = rw (add-zero, ← (ap (λ (r : Step). r .state) e)) h
+  slots-kept (x ∷ xs) known k s t h e =
+      let r = slotStep (plantOf f plant) x s in
+      let g = then-went r (runSlots (plantOf f plant) xs) t e in
+      let n : k + 1 + length xs ≡ k + suc (length xs) = omega arith in
+      rw (← n)
+      (slots-kept xs (λ i l. known (suc i) (omega arith)) (k + 1) (r .state) t (slot-kept x r (known 0 (omega arith)) h refl (g .0)) (g .1))
+
+  -- a week, by what its slots give back, and by what it gives back
+  module _ (S : Slots) (fit : SlotsFit f S) {w : ℕ} {s : State} (l : w < f .weeks) (h : Sane f w 0 s) where
+    pub week-slots-kept : (t : State) → runSlots (plantOf f plant) (S .line .week w) (weekBegin s) ≡ continues t → Sane f w 16 t
+    week-slots-kept t e =
+        sane-more (slots-kept (S .line .week w) (λ i m. fit .product w i l m) 0 (weekBegin s) t (begin-sane h) e) (omega arith)
+        (omega (arith, fit .few w l, counts plant f good .products))
+
+    pub week-kept : (r : Step) → r ≡ runWeek (plantOf f plant) S w s → r .outcome ≡ Continues → Sane f (w + 1) 0 (r .state)
+    unfolding runWeek
+    week-kept r e q =
+        let P = plantOf f plant in
+        let ran = runSlots P (S .line .week w) (weekBegin s) in
+        let sales : ℕ → ℕ → ℕ = λ c i. S .sales c i w in
+        let a = then-went ran (weekEnd P w sales) (r .state) (sym e ∙ went r q) in
+        let g = week-went P w sales (ran .state) (r .state) (a .1) in
+        rw (g .0) (week-sane sales (λ c i x y. fit .sales c i w x y l) l (week-slots-kept (ran .state) (went ran (a .0))) (g .1))
+
+  pub opening-sane : Sane f 0 0 (opening (plantOf f plant))
+  unfolding plantOf opening inventoryOf
+  opening-sane =
+      let P = plantOf f plant in
+      let n = f .customers * f .products in
+      let row : ℕ → ℕ → ℕ = λ i _. P .openingInventory i in
+      let table : ℕ → ℕ → ℕ → ℕ = λ c i _. P .openingBacklog c i in
+      let cells : ℕ → ℕ → ℕ = λ k. table (k / f .products) (k % f .products) in
+      record {
+        inventory-long = row-length 0 (f .products) row (replicate 16 0);
+        backlog-long = rows-length (f .customers) (f .products) table (replicate 128 0);
+        inventory-most = λ i q.
+            omega (arith, row-first (f .products) row (replicate 16 0) (ranges .products-most) i q, ranges .opening-inventory-most i q);
+        backlog-most = λ j q.
+            let p = pair-of (f .customers) (f .products) j q in
+            rw (rows-flat (f .customers) (f .products) table (replicate 128 0))
+            (omega (arith, row-first n cells (replicate 128 0) (counts plant f good .pairs) j q, ranges .opening-backlog-most _ _ (p .row) (p .column)));
+        clock-most = omega arith;
+        profit-most = omega arith;
+        mounted-below = tt;
+      }

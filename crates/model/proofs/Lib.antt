@@ -1,0 +1,17 @@
+pub mod Updates
+pub mod States
+pub mod Grids
+pub mod Money
+pub mod Changeovers
+pub mod Orders
+pub mod RunStates
+pub mod Stops
+pub mod RuleFacts
+pub mod SamePlans
+pub mod RunRules
+pub mod PlanRuns
+pub mod GivenPlans
+pub mod Agreement
+pub mod Widths
+pub mod ModelTheorem
+pub mod SmallPlantFacts

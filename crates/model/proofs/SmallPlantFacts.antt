@@ -1,0 +1,41 @@
+-- P1 to P12 of the small plant, together, by computation. Assumes nothing.
+use mathlib.Core.Path.{_≡_, refl}
+use mathlib.Core.List.{[], _∷_, map}
+use lib.IntN.{pos}
+use Rattle.mathematics.specs.Below.{is}
+use Rattle.mathematics.specs.Week.{markedOnce, rule31, rule32, rule34}
+use Rattle.machine.specs.declared.Outcome.the-variants.{Continues, Stops}
+use Rattle.machine.specs.State.{inventoryOf, backlogOf, hasRun, withInventory, withBacklog, withWeek, withProfit, withMounted}
+use Rattle.machine.specs.Machine.{weekBegin, clockAfter, slotDone, slotStep, salesDue, backlogAfter, salesInStock, inventoryAfter, storageKept, booked}
+use Rattle.machine.specs.Machine.{weekDone, weekEnd}
+use Rattle.machine.specs.Run.{opening, runWeek, run, ranWeek}
+use Rattle.rules.specs.declared.Verdict.the-variants.{Passed, Broken}
+use Rattle.rules.specs.Rules as rules
+use Rattle.rules.specs.Rules.{weekOf, rule33, rule35, rule36, rule37, rule38, rule39, rule40, rule41, changeoverUnder, backlogBefore, inventoryBefore}
+use Rattle.rules.specs.Rules.{salesOf, changeoversOf, profitOf}
+use Rattle.rules.specs.Verdict.{verdictOf}
+use Rattle.model.specs.RunTables.{lineTables, runTables}
+use Rattle.model.specs.SmallPlant as small
+use Rattle.model.specs.SmallPlant.{judged, ran, factOf, smallPlant, threeProducts, ring, smallSlots, slotsOfB, smallCases}
+
+pub small-plant-facts : map factOf smallCases
+    ≡ ran (Passed (record { 0 = pos 8650000 })) Continues
+    ∷ judged (Broken 41)
+    ∷ judged (Broken 34)
+    ∷ ran (Passed (record { 0 = pos 6625000 })) Continues
+    ∷ ran (Broken 35) (Stops 35)
+    ∷ ran (Passed (record { 0 = pos 8346000 })) Continues
+    ∷ ran (Broken 36) (Stops 36)
+    ∷ ran (Broken 39) (Stops 39)
+    ∷ ran (Broken 38) (Stops 38)
+    ∷ judged (Broken 31)
+    ∷ ran (Passed (record { 0 = pos 8650000 })) Continues
+    ∷ ran (Broken 40) (Stops 40)
+    ∷ []
+small-plant-facts =
+    unfold smallPlant threeProducts ring smallSlots slotsOfB small.withProfit smallCases lineTables runTables in
+    unfold inventoryOf backlogOf hasRun withInventory withBacklog withWeek withProfit withMounted weekBegin clockAfter slotDone slotStep in
+    unfold salesDue backlogAfter salesInStock inventoryAfter storageKept booked weekDone weekEnd opening runWeek run ranWeek in
+    unfold is markedOnce rule31 rule32 rule34 weekOf rule33 rule35 rule36 rule37 rule38 rule39 rule40 rule41 verdictOf in
+    unfold changeoverUnder backlogBefore inventoryBefore salesOf changeoversOf rules.backlogOf rules.inventoryOf profitOf in
+    refl

@@ -1,0 +1,139 @@
+-- The machine's state, part by part, before and after each step: its arrays keep their lengths, and each cell changes as the paper says.
+-- Assumes nothing.
+use Prim.Native.Nat.{ℕ, _+_, _*_, _-_, _<_, _≤_}
+use mathlib.Core.Path.{_≡_, refl, _∙_}
+use mathlib.Core.Bool.{Bool, true, false}
+use native.Mathlib.Omega.{arith}
+use native.Mathlib.Decide.{ℕ-discrete}
+use native.Mathlib.Nat.{mul-le-mul}
+use lib.ListN.{length, length-set, getD-replicate, replicate}
+use lib.Seq.{getD-set-same, getD-set-other}
+use lib.IntN.{pos, _+ℤ_, _-ℤ_}
+use Rattle.mathematics.specs.Below.{sumBelow, is}
+use Rattle.mathematics.proofs.Below.{is-same, is-other}
+use Rattle.plant_file.specs.Plant.{Plant}
+use Rattle.plant_file.specs.Ranges.{PlantRanges}
+use Rattle.slot_file.specs.Slots.{Slot}
+use Rattle.machine.specs.declared.State.{State}
+use Rattle.machine.specs.State.{inventoryOf, backlogOf, hasRun, withInventory, withBacklog, withWeek, withProfit, withMounted}
+use Rattle.machine.specs.Machine.{weekBegin, clockAfter, slotDone, soldOf, inventoryAfter, backlogAfter, booked, weekDone}
+use Rattle.machine.specs.Run.{opening}
+use Rattle.model.proofs.Updates.{row-length, row-from-zero, rows-length, rows-at}
+
+-- the lengths of the struct's arrays
+pub record Lengths (s : State) : Type 0 where
+  pub inventory : length (s .inventory) ≡ 16
+  pub backlog : length (s .backlog) ≡ 128
+  pub ran : length (s .ran) ≡ 16
+
+-- 1 for true, 0 for false
+abbrev pub mark : Bool → ℕ
+mark true = 1
+mark false = 0
+
+-- ---- the lengths are kept
+pub opening-lengths : (P : Plant) → Lengths (opening P)
+unfolding opening
+opening-lengths P =
+    record {
+      inventory = row-length 0 (λ i _. P .openingInventory i) (replicate 16 0) (P .products);
+      backlog = rows-length (P .products) (λ c i _. P .openingBacklog c i) (replicate 128 0) (P .customers);
+      ran = refl;
+    }
+
+pub begin-lengths : {s : State} → Lengths s → Lengths (weekBegin s)
+unfolding weekBegin withWeek
+begin-lengths h = record { inventory = h .inventory; backlog = h .backlog; ran = refl }
+
+pub slot-lengths : (P : Plant) (x : Slot) {s : State} → Lengths s → Lengths (slotDone P x s)
+unfolding slotDone withInventory withWeek withProfit withMounted
+slot-lengths P x {s} h =
+    record {
+      inventory = simp length-set (h .inventory);
+      backlog = h .backlog;
+      ran = simp length-set (h .ran);
+    }
+
+pub week-lengths : (P : Plant) (w : ℕ) (sales : ℕ → ℕ → ℕ) {s : State} → Lengths s → Lengths (weekDone P w sales s)
+unfolding weekDone booked backlogAfter inventoryAfter withInventory withBacklog withProfit
+week-lengths P w sales {s} h =
+    record {
+      inventory = row-length 0 (λ i stock. stock - soldOf P sales i) (s .inventory) (P .products) ∙ h .inventory;
+      backlog = rows-length (P .products) (λ c i owed. owed + P .demand c i w - sales c i) (s .backlog) (P .customers) ∙ h .backlog;
+      ran = h .ran;
+    }
+
+-- ---- the cells
+module _ (P : Plant) (R : PlantRanges P) where
+  table-fits : P .customers * P .products ≤ 128
+  table-fits = mul-le-mul (R .customers-most) (R .products-most)
+
+  pub opening-inventory : (i : ℕ) → i < P .products → inventoryOf (opening P) i ≡ P .openingInventory i
+  unfolding opening inventoryOf
+  opening-inventory i l = row-from-zero (λ i _. P .openingInventory i) (replicate 16 0) (P .products) i (R .products-most) l
+
+  pub opening-backlog : (c i : ℕ) → c < P .customers → i < P .products → backlogOf (P .products) (opening P) c i ≡ P .openingBacklog c i
+  unfolding opening backlogOf
+  opening-backlog c i k l =
+      rows-at (P .products) (λ c i _. P .openingBacklog c i) (replicate 128 0) (P .customers) c i table-fits k l
+
+  pub begin-ran : (s : State) (i : ℕ) → i < P .products → hasRun (weekBegin s) i ≡ false
+  unfolding weekBegin withWeek hasRun
+  begin-ran s i l = getD-replicate 16 i false false (omega (arith, R .products-most))
+
+  module _ (x : Slot) (s : State) (h : Lengths s) (l : x .product < P .products) where
+    pub slot-inventory : (i : ℕ) → inventoryOf (slotDone P x s) i ≡ inventoryOf s i + is (x .product) i * (P .line .rate (x .product) * x .minutes)
+    unfolding slotDone inventoryOf withInventory withWeek withProfit withMounted
+    slot-inventory i = elim (ℕ-discrete (x .product) i) [
+      | yes e ↦ rw (is-same (x .product) i e, ← e)
+          (getD-set-same (s .inventory) (x .product) _ 0 (omega (arith, h .inventory, R .products-most)) ∙ omega arith)
+      | no d ↦ rw (is-other (x .product) i d)
+          (getD-set-other (s .inventory) (x .product) i _ 0 (λ e. d (omega arith)) ∙ omega arith)
+    ]
+
+    pub slot-ran : hasRun s (x .product) ≡ false → (i : ℕ) → mark (hasRun (slotDone P x s) i) ≡ mark (hasRun s i) + is (x .product) i
+    unfolding slotDone hasRun withInventory withWeek withProfit withMounted
+    slot-ran fresh i = elim (ℕ-discrete (x .product) i) [
+      | yes e ↦ rw (
+        is-same (x .product) i e,
+        ← e,
+        fresh,
+        getD-set-same (s .ran) (x .product) true false (omega (arith, h .ran, R .products-most)),
+      )
+      | no d ↦ rw (is-other (x .product) i d, getD-set-other (s .ran) (x .product) i true false (λ e. d (omega arith))) (omega arith)
+    ]
+
+  module _ (w : ℕ) (sales : ℕ → ℕ → ℕ) (s : State) (h : Lengths s) where
+    pub week-inventory : (i : ℕ) → i < P .products → inventoryOf (weekDone P w sales s) i ≡ inventoryOf s i - soldOf P sales i
+    unfolding weekDone booked backlogAfter inventoryAfter withInventory withBacklog withProfit inventoryOf
+    week-inventory i l =
+        row-from-zero (λ i stock. stock - soldOf P sales i) (s .inventory) (P .products) i (omega (arith, h .inventory, R .products-most)) l
+
+    pub week-backlog : (c i : ℕ) → c < P .customers → i < P .products
+        → backlogOf (P .products) (weekDone P w sales s) c i ≡ backlogOf (P .products) s c i + P .demand c i w - sales c i
+    unfolding weekDone booked backlogAfter inventoryAfter withInventory withBacklog withProfit backlogOf
+    week-backlog c i k l =
+        rows-at (P .products) (λ c i owed. owed + P .demand c i w - sales c i) (s .backlog) (P .customers) c i
+        (omega (arith, h .backlog, table-fits)) k l
+
+-- the profit, by the cells after the week
+pub week-profit : (P : Plant) (w : ℕ) (sales : ℕ → ℕ → ℕ) (s : State) → weekDone P w sales s .profit .0
+    ≡ s .profit .0 +ℤ pos (sumBelow (P .customers) (λ c. sumBelow (P .products) (λ i. P .price c i * sales c i)))
+    -ℤ pos (sumBelow (P .customers) (λ c. sumBelow (P .products) (λ i. P .backlogCost c i * backlogOf (P .products) (weekDone P w sales s) c i)))
+    -ℤ pos (sumBelow (P .products) (λ i. P .inventoryCost i * inventoryOf (weekDone P w sales s) i))
+unfolding weekDone booked backlogAfter inventoryAfter withInventory withBacklog withProfit backlogOf inventoryOf
+week-profit P w sales s = refl
+
+-- ---- the clock, and the inventory that the limits of storage are tried on
+pub begin-clock : (s : State) → weekBegin s .clock .0 ≡ 0
+unfolding weekBegin withWeek
+begin-clock s = refl
+
+pub slot-clock : (P : Plant) (x : Slot) (s : State) → slotDone P x s .clock .0 ≡ clockAfter P x s
+unfolding slotDone withInventory withWeek withProfit withMounted
+slot-clock P x s = refl
+
+pub kept-inventory : (P : Plant) (w : ℕ) (sales : ℕ → ℕ → ℕ) (s : State) (i : ℕ)
+    → inventoryOf (inventoryAfter P sales s) i ≡ inventoryOf (weekDone P w sales s) i
+unfolding weekDone booked backlogAfter inventoryAfter withInventory withBacklog withProfit inventoryOf
+kept-inventory P w sales s i = refl

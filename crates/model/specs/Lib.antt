@@ -1,0 +1,4 @@
+pub mod RunTables
+pub mod Model
+pub mod Match
+pub mod SmallPlant

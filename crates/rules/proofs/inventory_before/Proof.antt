@@ -1,0 +1,19 @@
+-- `rules::inventory_before` meets its contract. Assumes nothing.
+use borrow.Author.Needs.{needs}
+use native.Mathlib.Omega.{arith}
+use mathlib.Core.Path.{sym, _∙_}
+use Prim.Native.Nat.{_≤_}
+use Rattle.rules.proofs.Weeks.{inventory-first, inventory-later}
+use Rattle.rules.proofs.inventory_before.Statement.{statement}
+use Rattle.rules.proofs.inventory_before.Tie as tie
+
+returns : tie.Need-returns
+returns c = rw (inventory-first _ _ _ _ (c .before .if1 .taken)) (search needs)
+
+returns-2 : tie.Need-returns-2
+returns-2 c =
+    let h : 1 ≤ c .before .before .before .before .args .week = omega arith in
+    rw (inventory-later _ _ _ _ h) (search needs)
+
+pub inventory-before-spec : {M : Type 1} → statement M
+inventory-before-spec = tie.close (tie.spec (λ c κs. search needs) returns (λ c. search needs) (λ c κs. search needs) returns-2)

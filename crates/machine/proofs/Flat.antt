@@ -1,13 +1,13 @@
 -- Tables by row and column as flat rows: tests, sums and updates of m rows of n numbers are those of m * n numbers. Laws of updates: the
 -- value at each place inside and outside, the length. Assumes nothing.
 use Prim.Native.Nat.{ℕ, zero, suc, _+_, _*_, _/_, _%_, _<_, _≤_}
-use mathlib.Core.Path.{_≡_, refl, sym, ap, _∙_}
+use mathlib.Core.Path.{_≡_, refl, sym, _∙_}
 use mathlib.Core.Bool.{Bool, true, false, _&&_}
 use mathlib.Core.List.{List}
 use native.Mathlib.Omega.{arith}
 use native.Mathlib.Decide.{ℕ-discrete}
 use native.Mathlib.Nat.{add-zero, add-suc, zero-add, zero-mul, suc-mul}
-use lib.ListN.{length, getD, set, length-set}
+use lib.ListN.{length, getD, length-set}
 use lib.Seq.{getD-set-same, getD-set-other}
 use Rattle.mathematics.specs.Below.{sumBelow, allBelow}
 use Rattle.mathematics.proofs.Below.{sum-ext}

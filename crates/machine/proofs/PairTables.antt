@@ -21,8 +21,8 @@ module _ (n : ℕ) (P : Plant) where
   abbrev pub dueAt : ℕ → (ℕ → ℕ → ℕ) → State → ℕ → Bool
   dueAt w sales s k = leb (sales (k / n) (k % n)) (getD (s .backlog) k 0 + P .demand (k / n) (k % n) w)
 
-  abbrev pub owedAt : ℕ → (ℕ → ℕ → ℕ) → ℕ → ℕ → ℕ
-  owedAt w sales k owed = owed + P .demand (k / n) (k % n) w - sales (k / n) (k % n)
+  abbrev pub backlogAt : ℕ → (ℕ → ℕ → ℕ) → ℕ → ℕ → ℕ
+  backlogAt w sales k before = before + P .demand (k / n) (k % n) w - sales (k / n) (k % n)
 
   abbrev pub revenueAt : (ℕ → ℕ → ℕ) → ℕ → ℕ
   revenueAt sales k = P .price (k / n) (k % n) * sales (k / n) (k % n)
@@ -31,9 +31,9 @@ module _ (n : ℕ) (P : Plant) where
   chargeAt s k = P .backlogCost (k / n) (k % n) * getD (s .backlog) k 0
 
 -- the backlog of a pair
-pub owed-at : (n : ℕ) (s : State) (k : ℕ) → backlogOf n s (k / n) (k % n) ≡ getD (s .backlog) k 0
+pub backlog-at : (n : ℕ) (s : State) (k : ℕ) → backlogOf n s (k / n) (k % n) ≡ getD (s .backlog) k 0
 unfolding backlogOf
-owed-at n s k = ap (λ (j : ℕ). getD (s .backlog) j 0) (div-add-mod' k n)
+backlog-at n s k = ap (λ (j : ℕ). getD (s .backlog) j 0) (div-add-mod' k n)
 
 module _ (P : Plant) (s : State) where
   pub due-flat : (w : ℕ) (sales : ℕ → ℕ → ℕ) → salesDue P w sales s ≡ allBelow (P .customers * P .products) (dueAt (P .products) P w sales s)
@@ -41,7 +41,7 @@ module _ (P : Plant) (s : State) where
   due-flat w sales =
       let n = P .products in
       all-table (P .customers) n (λ c i. leb (sales c i) (backlogOf n s c i + P .demand c i w))
-      ∙ all-ext (P .customers * n) _ (dueAt n P w sales s) (λ k l. rw (owed-at n s k))
+      ∙ all-ext (P .customers * n) _ (dueAt n P w sales s) (λ k l. rw (backlog-at n s k))
 
   -- where no sale exceeds backlog plus demand, none of a pair does
   pub due-at : (w : ℕ) (sales : ℕ → ℕ → ℕ) → salesDue P w sales s ≡ true → (k : ℕ) → k < P .customers * P .products
@@ -49,15 +49,15 @@ module _ (P : Plant) (s : State) where
   due-at w sales h k l = leb-true _ _ (all-each _ (dueAt (P .products) P w sales s) (sym (due-flat w sales) ∙ h) k l)
 
   pub backlog-flat : (w : ℕ) (sales : ℕ → ℕ → ℕ)
-      → backlogAfter P w sales s ≡ withBacklog s (updateRow 0 (P .customers * P .products) (owedAt (P .products) P w sales) (s .backlog))
+      → backlogAfter P w sales s ≡ withBacklog s (updateRow 0 (P .customers * P .products) (backlogAt (P .products) P w sales) (s .backlog))
   unfolding backlogAfter
-  backlog-flat w sales = ap (withBacklog s) (rows-flat (P .customers) (P .products) (λ c i owed. owed + P .demand c i w - sales c i) (s .backlog))
+  backlog-flat w sales = ap (withBacklog s) (rows-flat (P .customers) (P .products) (λ c i before. before + P .demand c i w - sales c i) (s .backlog))
 
   pub charge-flat : backlogChargeOf P s ≡ sumBelow (P .customers * P .products) (chargeAt (P .products) P s)
   charge-flat =
       let n = P .products in
       sum-table (P .customers) n (λ c i. P .backlogCost c i * backlogOf n s c i)
-      ∙ sum-ext (P .customers * n) _ (chargeAt n P s) (λ k l. rw (owed-at n s k))
+      ∙ sum-ext (P .customers * n) _ (chargeAt n P s) (λ k l. rw (backlog-at n s k))
 
 pub revenue-flat : (P : Plant) (sales : ℕ → ℕ → ℕ) → revenueOf P sales ≡ sumBelow (P .customers * P .products) (revenueAt (P .products) P sales)
 revenue-flat P sales = sum-table (P .customers) (P .products) (λ c i. P .price c i * sales c i)

@@ -9,7 +9,7 @@ use native.Mathlib.Decide.{ℕ-discrete}
 use native.Mathlib.Nat.{mul-le-mul, mul-le-mul-right, le-trans, add-zero}
 use lib.ListN.{length, getD, set, replicate, length-set}
 use lib.Seq.{getD-set-same, getD-set-other}
-use lib.IntN.{ℤ, pos, _+ℤ_, _-ℤ_}
+use lib.IntN.{pos, _+ℤ_, _-ℤ_}
 use lib.Signed.{mag}
 use Rattle.mathematics.specs.Below.{sumBelow}
 use Rattle.mathematics.proofs.Below.{sum-mono, sum-const}
@@ -26,7 +26,7 @@ use Rattle.machine.specs.declared.Mounted.the-variants.{Nothing, Product
 use Rattle.machine.specs.declared.State.{State}
 use Rattle.machine.specs.declared.Step.{Step}
 use Rattle.machine.specs.declared.Outcome.the-variants.{Continues}
-use Rattle.machine.specs.State.{inventoryOf, backlogOf, withInventory, withBacklog, withWeek, withProfit, withMounted, continues}
+use Rattle.machine.specs.State.{inventoryOf, withInventory, withBacklog, withWeek, withProfit, withMounted, continues}
 use Rattle.machine.specs.Machine.{changeoverTo, weekBegin, clockAfter, slotDone, slotStep, soldOf}
 use Rattle.machine.specs.Machine.{inventoryAfter, backlogAfter, storageKept, booked, weekDone, weekEnd}
 use Rattle.machine.specs.Run.{opening, runSlots, runWeek}
@@ -35,7 +35,7 @@ use Rattle.machine.specs.Bounds.{mountedBelow, Sane, Roomy}
 use Rattle.machine.proofs.Signed.{mag-sub, mag-add}
 use Rattle.machine.proofs.Plants.{counts}
 use Rattle.machine.proofs.Flat.{row-length, row-first, rows-length, rows-flat}
-use Rattle.machine.proofs.PairTables.{owedAt, chargeAt, backlog-flat, charge-flat}
+use Rattle.machine.proofs.PairTables.{backlogAt, chargeAt, backlog-flat, charge-flat}
 use Rattle.machine.proofs.Steps.{slot-went, week-went, storage-at}
 use Rattle.machine.proofs.Runs.{then-went, went}
 
@@ -119,7 +119,7 @@ module _ (plant : List ℕ) (f : Shape) (good : plantForm plant ≡ Good f) wher
     pub inventory-sane : {w k : ℕ} {s : State} → Sane f w k s → Sane f w k (inventoryAfter (plantOf f plant) sales s)
     unfolding plantOf inventoryAfter withInventory inventoryOf
     inventory-sane {w} {k} {s} h =
-        let g : ℕ → ℕ → ℕ = λ i stock. stock - soldOf (plantOf f plant) sales i in
+        let g : ℕ → ℕ → ℕ = λ i before. before - soldOf (plantOf f plant) sales i in
         let room : f .products ≤ length (s .inventory) = omega (arith, h .inventory-long, ranges .products-most) in
         record {
           inventory-long = row-length 0 (f .products) g (s .inventory) ∙ h .inventory-long;
@@ -135,7 +135,7 @@ module _ (plant : List ℕ) (f : Shape) (good : plantForm plant ≡ Good f) wher
     unfolding plantOf withBacklog inventoryOf
     backlog-sane {w} {k} {s} l h =
         let n = f .customers * f .products in
-        let g = owedAt (f .products) (plantOf f plant) w sales in
+        let g = backlogAt (f .products) (plantOf f plant) w sales in
         let room : n ≤ length (s .backlog) = omega (arith, h .backlog-long, counts plant f good .pairs) in
         rw (backlog-flat (plantOf f plant) s w sales)
         (record {

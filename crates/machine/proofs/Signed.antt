@@ -1,6 +1,6 @@
 -- The size of a signed sum and difference, and what the machine's own are. Assumes nothing.
 use Prim.Native.Nat.{ℕ, zero, suc, _+_, _-_, _≤_, _<_, _^_}
-use mathlib.Core.Path.{_≡_, refl}
+use mathlib.Core.Path.{_≡_}
 use mathlib.Core.Bool.{Bool, true, false, cond}
 use native.Mathlib.Omega.{arith}
 use lib.Dec.{ltb}
@@ -39,11 +39,17 @@ module _ (z : ℤ) (n : ℕ) (h : mag z + n < 2 ^ 63) where
   pub pay-fits : SFits w64 (toZ w64 (ofZ w64 z) -ℤ toZ w64 n)
   pay-fits = rw (back z (omega arith), back (pos n) (omega arith)) sub-fits
 
-  pub pay-is : toZ w64 (ofZ w64 (toZ w64 (ofZ w64 z) -ℤ toZ w64 n)) ≡ z -ℤ pos n
-  pay-is = rw (back z (omega arith), back (pos n) (omega arith), toZ-ofZ sub-fits)
+  pay-back : toZ w64 (ofZ w64 (toZ w64 (ofZ w64 z) -ℤ toZ w64 n)) ≡ z -ℤ pos n
+  pay-back = rw (back z (omega arith), back (pos n) (omega arith), toZ-ofZ sub-fits)
+
+  pub pay-is : let r = toZ w64 (ofZ w64 (toZ w64 (ofZ w64 z) -ℤ toZ w64 n)) in (r ≡ z -ℤ pos n) × (mag r ≤ mag z + n)
+  pay-is = (pay-back, rw pay-back (mag-sub z n))
 
   pub gain-fits : SFits w64 (toZ w64 (ofZ w64 z) +ℤ toZ w64 n)
   gain-fits = rw (back z (omega arith), back (pos n) (omega arith)) add-fits
 
-  pub gain-is : toZ w64 (ofZ w64 (toZ w64 (ofZ w64 z) +ℤ toZ w64 n)) ≡ z +ℤ pos n
-  gain-is = rw (back z (omega arith), back (pos n) (omega arith), toZ-ofZ add-fits)
+  gain-back : toZ w64 (ofZ w64 (toZ w64 (ofZ w64 z) +ℤ toZ w64 n)) ≡ z +ℤ pos n
+  gain-back = rw (back z (omega arith), back (pos n) (omega arith), toZ-ofZ add-fits)
+
+  pub gain-is : let r = toZ w64 (ofZ w64 (toZ w64 (ofZ w64 z) +ℤ toZ w64 n)) in (r ≡ z +ℤ pos n) × (mag r ≤ mag z + n)
+  gain-is = (gain-back, rw gain-back (mag-add z n))

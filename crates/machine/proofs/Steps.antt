@@ -57,9 +57,9 @@ module _ (P : Plant) (w : ℕ) (sales : ℕ → ℕ → ℕ) (s : State) where
   unfolding weekEnd
   week-undue a = rw a
 
-  pub week-unstocked : salesDue P w sales s ≡ true → salesInStock P sales s ≡ false → weekEnd P w sales s ≡ stops s 39
+  pub week-oversold : salesDue P w sales s ≡ true → salesInStock P sales s ≡ false → weekEnd P w sales s ≡ stops s 39
   unfolding weekEnd
-  week-unstocked a b = rw (a, b)
+  week-oversold a b = rw (a, b)
 
   pub week-unkept : salesDue P w sales s ≡ true → salesInStock P sales s ≡ true → storageKept P (inventoryAfter P sales s) ≡ false
       → weekEnd P w sales s ≡ stops s 40
@@ -85,9 +85,9 @@ module _ (P : Plant) (s : State) where
   unfolding salesDue inventoryAfter withInventory backlogOf
   due-sold w sales = refl
 
-  pub stock-at : (sales : ℕ → ℕ → ℕ) → salesInStock P sales s ≡ true → (i : ℕ) → i < P .products → soldOf P sales i ≤ inventoryOf s i
+  pub sold-at : (sales : ℕ → ℕ → ℕ) → salesInStock P sales s ≡ true → (i : ℕ) → i < P .products → soldOf P sales i ≤ inventoryOf s i
   unfolding salesInStock
-  stock-at sales h i l = leb-true _ _ (all-each (P .products) (λ j. leb (soldOf P sales j) (inventoryOf s j)) h i l)
+  sold-at sales h i l = leb-true _ _ (all-each (P .products) (λ j. leb (soldOf P sales j) (inventoryOf s j)) h i l)
 
   pub storage-at : storageKept P s ≡ true → (i : ℕ) → i < P .products → (P .leastStorage i ≤ inventoryOf s i) × (inventoryOf s i ≤ P .greatestStorage i)
   unfolding storageKept

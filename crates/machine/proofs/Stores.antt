@@ -1,6 +1,6 @@
 -- A loop that stores each cell anew: the state after one cell more. Assumes nothing.
-use Prim.Native.Nat.{ℕ, _+_, _≤_}
-use mathlib.Core.Path.{_≡_, refl, ap, _∙_}
+use Prim.Native.Nat.{ℕ, _+_}
+use mathlib.Core.Path.{_≡_, refl, ap}
 use mathlib.Core.List.{List}
 use native.Mathlib.Omega.{arith}
 use native.Mathlib.Nat.{zero-add}
@@ -13,24 +13,29 @@ use Rattle.machine.proofs.Flat.{row-past}
 pub row-stored : (k v : ℕ) (f : ℕ → ℕ → ℕ) (l : List ℕ) → v ≡ f k (getD l k 0) → set (updateRow 0 k f l) k v ≡ updateRow 0 (k + 1) f l
 row-stored k v f l e = rw (add-one, zero-add, e)
 
-module _ (s₀ s : State) (k : ℕ) (f : ℕ → ℕ → ℕ) where
-  module _ (e : s ≡ withBacklog s₀ (updateRow 0 k f (s₀ .backlog))) where
-    -- the next cell is as it was
-    pub backlog-next : getD (s .backlog) k 0 ≡ getD (s₀ .backlog) k 0
-    unfolding withBacklog
-    backlog-next = rw e (row-past 0 k f (s₀ .backlog) k (omega arith))
+-- one of the state's arrays: read, and stored anew
+pub record Part : Type 0 where
+  pub read : State → List ℕ
+  pub anew : State → List ℕ → State
+  pub read-anew : (s : State) (l : List ℕ) → read (anew s l) ≡ l
+  pub anew-anew : (s : State) (l m : List ℕ) → anew (anew s l) m ≡ anew s m
 
-    pub backlog-stored : (v : ℕ) → v ≡ f k (getD (s₀ .backlog) k 0)
-        → withBacklog s (set (s .backlog) k v) ≡ withBacklog s₀ (updateRow 0 (k + 1) f (s₀ .backlog))
-    unfolding withBacklog
-    backlog-stored v h = rw e (ap (withBacklog s₀) (row-stored k v f (s₀ .backlog) h))
+abbrev pub inventory : Part
+unfolding withInventory
+inventory = record { read = λ s. s .inventory; anew = withInventory; read-anew = λ s l. refl; anew-anew = λ s l m. refl }
 
-  module _ (e : s ≡ withInventory s₀ (updateRow 0 k f (s₀ .inventory))) where
-    pub inventory-next : getD (s .inventory) k 0 ≡ getD (s₀ .inventory) k 0
-    unfolding withInventory
-    inventory-next = rw e (row-past 0 k f (s₀ .inventory) k (omega arith))
+abbrev pub backlog : Part
+unfolding withBacklog
+backlog = record { read = λ s. s .backlog; anew = withBacklog; read-anew = λ s l. refl; anew-anew = λ s l m. refl }
 
-    pub inventory-stored : (v : ℕ) → v ≡ f k (getD (s₀ .inventory) k 0)
-        → withInventory s (set (s .inventory) k v) ≡ withInventory s₀ (updateRow 0 (k + 1) f (s₀ .inventory))
-    unfolding withInventory
-    inventory-stored v h = rw e (ap (withInventory s₀) (row-stored k v f (s₀ .inventory) h))
+-- the cells below k are stored anew
+module _ (part : Part) (s₀ s : State) (k : ℕ) (f : ℕ → ℕ → ℕ) (e : s ≡ part .anew s₀ (updateRow 0 k f (part .read s₀))) where
+  -- the next cell is as it was
+  pub cell-next : getD (part .read s) k 0 ≡ getD (part .read s₀) k 0
+  cell-next = rw (e, part .read-anew s₀ (updateRow 0 k f (part .read s₀))) (row-past 0 k f (part .read s₀) k (omega arith))
+
+  pub cell-stored : (v : ℕ) → v ≡ f k (getD (part .read s₀) k 0)
+      → part .anew s (set (part .read s) k v) ≡ part .anew s₀ (updateRow 0 (k + 1) f (part .read s₀))
+  cell-stored v h =
+      let l = updateRow 0 k f (part .read s₀) in
+      rw (e, part .read-anew s₀ l, part .anew-anew s₀ l (set l k v)) (ap (part .anew s₀) (row-stored k v f (part .read s₀) h))

@@ -3,7 +3,7 @@ use Prim.Native.Nat.{ℕ, _+_, _*_, _-_}
 use mathlib.Core.Bool.{Bool, true, false, not}
 use lib.ListN.{set, replicate}
 use lib.Dec.{leb, ltb}
-use lib.IntN.{ℤ, pos, _+ℤ_, _-ℤ_}
+use lib.IntN.{pos, _+ℤ_, _-ℤ_}
 use Rattle.mathematics.specs.Below.{sumBelow, allBelow, within}
 use Rattle.plant_file.specs.Plant.{Plant}
 use Rattle.slot_file.specs.Slots.{Slot}

@@ -122,18 +122,18 @@ pub fn changeover_to(plant: &[u8], f: Shape, mounted: Mounted, product: usize) -
     }
 }
 
-// Profit and an amount in thousandths of a cent.
+// Profit plus an amount, in thousandths of a cent.
 pub fn gain(profit: Profit, amount: u64) -> Profit
     requires { ⌜ mag (profit .0) + amount < 2 ^ 63 ⌝ }
-    ensures { λ r. ⌜ r .0 ≡ profit .0 +ℤ pos amount ⌝ }
+    ensures { λ r. ⌜ (r .0 ≡ profit .0 +ℤ pos amount) × (mag (r .0) ≤ mag (profit .0) + amount) ⌝ }
 {
     Profit(profit.0 + (amount as i64))
 }
 
-// Profit less an amount in thousandths of a cent.
+// Profit less an amount, in thousandths of a cent.
 pub fn pay(profit: Profit, amount: u64) -> Profit
     requires { ⌜ mag (profit .0) + amount < 2 ^ 63 ⌝ }
-    ensures { λ r. ⌜ r .0 ≡ profit .0 -ℤ pos amount ⌝ }
+    ensures { λ r. ⌜ (r .0 ≡ profit .0 -ℤ pos amount) × (mag (r .0) ≤ mag (profit .0) + amount) ⌝ }
 {
     Profit(profit.0 - (amount as i64))
 }
@@ -308,7 +308,8 @@ impl State {
 
     // The demand added to the backlog, and the sales taken from it.
     fn backlog_after(self, plant: &[u8], slots: &[u8], f: Shape, week: usize) -> State
-        requires { ⌜ Readable f (now plant) (now slots) week × Roomy f self × (salesDue (plantOf f (now plant)) week (salesOf f (now slots) week) self ≡ true) ⌝ }
+        requires { ⌜ Readable f (now plant) (now slots) week × Roomy f self
+            × (salesDue (plantOf f (now plant)) week (salesOf f (now slots) week) self ≡ true) ⌝ }
         ensures { λ r. ⌜ r ≡ backlogAfter (plantOf f (now (plant .entry))) week (salesOf f (now (slots .entry)) week) self ⌝ }
     {
         let mut s = self;
@@ -391,8 +392,8 @@ impl State {
                 outcome: Outcome::Stops(40),
             };
         }
-        let owing = sold.backlog_after(plant, slots, f, week);
-        let state = owing.booked(plant, slots, f, week);
+        let carried = sold.backlog_after(plant, slots, f, week);
+        let state = carried.booked(plant, slots, f, week);
         Step {
             state,
             outcome: Outcome::Continues,

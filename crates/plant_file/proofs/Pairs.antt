@@ -12,4 +12,5 @@ pub record Pair (m n k : ℕ) : Type 0 where
 
 pub pair-of : (m n k : ℕ) → k < m * n → Pair m n k
 pair-of m zero k h = absurd (omega (arith, mul-zero m))
-pair-of m (suc n) k h = record { row = div-lt-iff-lt-mul {k = suc n} {x = k} {y = m} (omega arith) .1 h; column = mod-lt k (omega arith); number = div-add-mod' k (suc n) }
+pair-of m (suc n) k h =
+    record { row = div-lt-iff-lt-mul {k = suc n} {x = k} {y = m} (omega arith) .1 h; column = mod-lt k (omega arith); number = div-add-mod' k (suc n) }

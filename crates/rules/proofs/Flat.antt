@@ -1,6 +1,6 @@
 -- A sum over the rows and columns of a table is the sum over its places, row by row. Assumes nothing.
 use Prim.Native.Nat.{ℕ, zero, suc, _+_, _*_, _<_, _≤_}
-use mathlib.Core.Path.{_≡_, refl, sym, ap, _∙_}
+use mathlib.Core.Path.{_≡_, _∙_}
 use native.Mathlib.Omega.{arith}
 use native.Mathlib.Nat.{add-zero, add-suc, zero-mul, suc-mul, mul-le-mul}
 use Rattle.mathematics.specs.Below.{sumBelow}

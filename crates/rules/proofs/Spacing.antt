@@ -1,6 +1,6 @@
 -- Where the numbers of a plan's sums stand: a week's row, the numbers into a product and out of it, and a product's sales. Assumes nothing.
 use Prim.Native.Nat.{ℕ, _+_, _*_, _≤_, _<_}
-use mathlib.Core.Path.{_≡_, ap}
+use mathlib.Core.Path.{_≡_, ap, _∙_}
 use mathlib.Core.List.{List}
 use native.Mathlib.Omega.{arith}
 use native.Mathlib.Nat.{mul-le-mul}
@@ -27,9 +27,9 @@ spaced f {s} h place l {k} {m} w narrow e {from} {step} few at moved below =
     }
 
 -- their sum
-pub spaced-sum : (k place : ℕ) (s : List ℕ) (from step n : ℕ) (at : ℕ → ℕ) → ((j : ℕ) → from + step * j ≡ at j)
-    → sumBelow n (λ j. cell k s place (from + step * j)) ≡ sumBelow n (λ j. cell k s place (at j))
-spaced-sum k place s from step n at moved = sum-ext n _ _ (λ j l. ap (cell k s place) (moved j))
+pub spaced-sum : (k place : ℕ) (s : List ℕ) (from step n : ℕ) (at : ℕ → ℕ) → ((j : ℕ) → from + step * j ≡ at j) → {r : ℕ}
+    → r ≡ sumBelow n (λ j. cell k s place (from + step * j)) → r ≡ sumBelow n (λ j. cell k s place (at j))
+spaced-sum k place s from step n at moved e = e ∙ sum-ext n _ _ (λ j l. ap (cell k s place) (moved j))
 
 -- the product of two bytes
 pub byte-times : {a b : ℕ} → a < 256 → b < 256 → a * b ≤ 65025

@@ -1,6 +1,5 @@
 // The model's rules 31 to 41 over a plant file and a plan file.
 ghost use mathlib.Core.Path.{_≡_};
-ghost use mathlib.Core.Bool.{_&&_};
 ghost use Prim.Native.Nat.{_+_, _*_, _≤_, _<_, _^_};
 ghost use lib.Dec.{eqb, leb};
 ghost use lib.ListN.{getD};
@@ -31,7 +30,6 @@ use numbers::inside;
 use sections::Shape;
 use sections::area;
 use sections::cost_cells;
-use sections::index2;
 use sections::index3;
 use sections::sum_cells;
 

@@ -1,5 +1,5 @@
 -- `machine::opening_row` meets its contract: the loop has stored the products below `product`. Assumes nothing.
-use Prim.Native.Nat.{_+_, _-_, _≤_}
+use Prim.Native.Nat.{ℕ, _+_, _-_, _≤_}
 use mathlib.Core.Path.{_≡_, refl}
 use borrow.Author.Needs.{needs}
 use native.Mathlib.Omega.{arith}
@@ -24,9 +24,10 @@ place c = omega (arith, c .loop-test .taken, c .before .before .count .ensures .
 
 loop-again : tie.Need-loop-again Inv-loop μ-loop
 loop-again c =
+    let turn = c .before .before .loop in
     let a = c .before .before .before .before .before .args in
-    let k = c .before .before .loop .product in
-    (search needs, rw (c .before .before .loop .inv .1) (row-stored k _ (λ i _. plantOf (a .f) (a .plant .now) .openingInventory i) (replicate 16 0) (c .opening-inventory .ensures .0)))
+    let opened : ℕ → ℕ → ℕ = λ i _. plantOf (a .f) (a .plant .now) .openingInventory i in
+    (search needs, rw (turn .inv .1) (row-stored (turn .product) _ opened (replicate 16 0) (c .opening-inventory .ensures .0)))
 
 returns : tie.Need-returns Inv-loop μ-loop
 returns c = let e : c .before .loop .product ≡ c .before .before .before .before .args .f .products = omega arith in cc

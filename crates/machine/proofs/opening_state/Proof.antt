@@ -1,5 +1,4 @@
 -- `machine::opening_state` meets its contract. Assumes nothing.
-use mathlib.Core.Path.{_≡_}
 use borrow.Author.Needs.{needs}
 use Rattle.plant_file.specs.Plant.{plantOf}
 use Rattle.machine.specs.Run.{opening}

@@ -25,13 +25,16 @@ place c = omega (arith, c .loop-test .taken, c .before .before .area .ensures .0
 
 loop-again : tie.Need-loop-again Inv-loop μ-loop
 loop-again c =
-    let a = c .before .before .before .before .before .args in
+    let start = c .before .before .before .before .before in
+    let a = start .args in
     let opened : ℕ → ℕ → ℕ = λ k v. plantOf (a .f) (a .plant .now) .openingBacklog (k / a .f .products) (k % a .f .products) in
-    (search needs, rw (c .before .before .loop .inv .1) (row-stored (c .before .before .loop .pair) _ opened (replicate 128 0) (c .pair-opening-backlog .ensures .0)))
+    let turn = c .before .before .loop in
+    (search needs, rw (turn .inv .1) (row-stored (turn .pair) _ opened (replicate 128 0) (c .pair-opening-backlog .ensures .0)))
 
 returns : tie.Need-returns Inv-loop μ-loop
 returns c =
-    let e : c .before .loop .pair ≡ c .before .before .before .before .args .f .customers * c .before .before .before .before .args .f .products = omega arith in
+    let start = c .before .before .before .before in
+    let e : c .before .loop .pair ≡ start .args .f .customers * start .args .f .products = omega arith in
     rw (rows-flat, ← e) (c .before .loop .inv .1)
 
 pub opening-table-spec : {M : Type 1} → statement M

@@ -1,6 +1,6 @@
 -- `machine::revenue` meets its contract: the loop has added the pairs below `pair`. Assumes nothing.
 use Prim.Native.Nat.{_*_, _-_, _≤_}
-use mathlib.Core.Path.{_≡_, refl, sym, ap, _∙_}
+use mathlib.Core.Path.{_≡_, refl}
 use borrow.Author.Needs.{needs}
 use native.Mathlib.Omega.{arith}
 use native.Mathlib.Numerals.{add-one}
@@ -33,8 +33,9 @@ loop-again c = (search needs, rw (add-one, ← (c .pair-sales .ensures .0), ← 
 returns : tie.Need-returns Inv-loop μ-loop
 unfolding plantOf
 returns c =
-    let e : c .before .loop .pair ≡ c .before .before .before .before .before .args .f .customers * c .before .before .before .before .before .args .f .products = omega arith in
-    (rw (revenue-flat, ← e) (c .before .loop .inv .1), omega (arith, counts _ _ (c .before .before .before .before .before .pre .plant-good) .pairs))
+    let start = c .before .before .before .before .before in
+    let e : c .before .loop .pair ≡ start .args .f .customers * start .args .f .products = omega arith in
+    (rw (revenue-flat, ← e) (c .before .loop .inv .1), omega (arith, counts _ _ (start .pre .plant-good) .pairs))
 
 pub revenue-spec : {M : Type 1} → statement M
 revenue-spec =

@@ -1,6 +1,6 @@
 -- `machine::run` meets its contract: what is left to run, from `week` on, gives what the whole run gives. Assumes nothing.
-use Prim.Native.Nat.{_+_, _*_, _-_, _≤_, _<_}
-use mathlib.Core.Path.{_≡_, refl, sym, ap, _∙_}
+use Prim.Native.Nat.{_*_, _-_, _≤_}
+use mathlib.Core.Path.{_≡_, refl, sym, _∙_}
 use borrow.Author.Needs.{needs}
 use native.Mathlib.Omega.{arith}
 use native.Mathlib.Nat.{sub-zero}
@@ -35,9 +35,12 @@ loop-holds c =
     (search needs, refl, search needs, rw e (opening-sane _ _ (c .before .before .before .before .pre .0)), rw (e, sub-zero))
 
 -- the week is one of the plant's
-readable : (c : tie.In-loop Inv-loop μ-loop) → let a = c .before .before .before .before .before .before .args in Readable (a .f) (a .plant .now) (a .slots .now) (c .before .loop .week)
+readable : (c : tie.In-loop Inv-loop μ-loop) → let start = c .before .before .before .before .before .before in
+    let a = start .args in Readable (a .f) (a .plant .now) (a .slots .now) (c .before .loop .week)
 readable c =
-    record { plant-good = c .before .before .before .before .before .before .pre .0; slots-good = c .before .before .before .before .before .before .pre .1; week-known = omega (arith, c .loop-test .taken, c .before .before .before .count .ensures .0) }
+    let start = c .before .before .before .before .before .before in
+    let counted = c .before .before .before in
+    record { plant-good = start .pre .0; slots-good = start .pre .1; week-known = omega (arith, c .loop-test .taken, counted .count .ensures .0) }
 
 add-first : tie.Need-add-first Inv-loop μ-loop
 add-first c =
@@ -46,8 +49,9 @@ add-first c =
 
 returns : tie.Need-returns Inv-loop μ-loop
 returns c =
+    let test = c .before .before .before in
     let r = c .before .before .run-week in
-    sym (weeks-stop _ _ _ _ _ (r .result) (readable (c .before .before .before) .week-known) (r .ensures) _ (c .enum-told .given .1)) ∙ c .before .before .before .before .loop .inv .4
+    sym (weeks-stop _ _ _ _ _ (r .result) (readable test .week-known) (r .ensures) _ (c .enum-told .given .1)) ∙ test .before .loop .inv .4
 
 loop-again : tie.Need-loop-again Inv-loop μ-loop
 unfolding slotsBefore
@@ -55,10 +59,11 @@ loop-again c =
     let ran = c .before .before .before .before in
     let r = ran .run-week in
     let b = ran .before .before .loop in
-    let s = ran .before .before .before .before .before .before .before in
+    let known = ran .before .before .before .before .before in
+    let s = known .before .before in
     let read = readable (ran .before) in
     let goes = c .before .before .enum-told2 .given .1 in
-    let fit = slots-fit (s .args .f) (s .args .slots .now) (λ i. omega (arith, ran .before .before .before .before .before .shared-slice-known2 .given i)) (s .pre .1) in (
+    let fit = slots-fit (s .args .f) (s .args .slots .now) (λ i. omega (arith, known .shared-slice-known2 .given i)) (s .pre .1) in (
       omega (arith, read .week-known),
       rw add-one (omega (arith, b .inv .1, c .slot-count .ensures .0)),
       omega (arith, c .slot-count .ensures .2, counts _ _ (s .pre .0) .products),
@@ -68,7 +73,9 @@ loop-again c =
 
 returns-2 : tie.Need-returns-2 Inv-loop μ-loop
 returns-2 c =
-    let h : c .before .before .before .before .before .before .args .f .weeks ≤ c .before .loop .week = omega (arith, c .loop-test .left, c .before .before .before .count .ensures .0) in
+    let start = c .before .before .before .before .before .before in
+    let counted = c .before .before .before in
+    let h : start .args .f .weeks ≤ c .before .loop .week = omega (arith, c .loop-test .left, counted .count .ensures .0) in
     sym (weeks-end _ _ _ _ _ h) ∙ c .before .loop .inv .4
 
 pub run-spec : {M : Type 1} → statement M
@@ -84,7 +91,7 @@ run-spec =
     (λ c. search needs)
     returns
     (λ c. search needs)
-    (λ c κs. (c .before .before .before .before .before .before .before .before .before .before .pre .1, readable (c .before .before .before .before) .week-known))
+    (λ c κs. let test = c .before .before .before .before in (test .before .before .before .before .before .before .pre .1, readable test .week-known))
     add-first
     (λ c. search needs)
     (λ c. search needs)

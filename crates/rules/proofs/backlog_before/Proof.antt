@@ -1,7 +1,6 @@
 -- `rules::backlog_before` meets its contract. Assumes nothing.
 use borrow.Author.Needs.{needs}
 use native.Mathlib.Omega.{arith}
-use mathlib.Core.Path.{sym, _∙_}
 use Prim.Native.Nat.{_≤_}
 use Rattle.rules.proofs.Weeks.{backlog-first, backlog-later}
 use Rattle.rules.proofs.backlog_before.Statement.{statement}

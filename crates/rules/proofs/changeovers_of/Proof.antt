@@ -1,7 +1,7 @@
 -- `rules::changeovers_of` meets its contract. Assumes nothing.
 use borrow.Author.Needs.{needs}
 use native.Mathlib.Omega.{arith}
-use mathlib.Core.Path.{ap, _∙_}
+use mathlib.Core.Path.{ap}
 use Prim.Native.Nat.{ℕ, _*_}
 use Rattle.plant_file.specs.Plant.{plantOf}
 use Rattle.rules.specs.Rules.{changeoversOf}

@@ -1,7 +1,6 @@
 -- `rules::into_sum` meets its contract. Assumes nothing.
 use borrow.Author.Needs.{needs}
 use native.Mathlib.Omega.{arith}
-use mathlib.Core.Path.{refl, _∙_}
 use Prim.Native.Nat.{_+_, _*_}
 use Rattle.sections.proofs.Rows.{width1}
 use Rattle.sections.proofs.Tables.{cube-below}
@@ -23,7 +22,7 @@ returns c =
     let a = c .before .before .before .before .args in
     let n = a .f .products in
     let r = rw (c .before .count .ensures .0, c .before .before .index3 .ensures .0) at (c .sum-cells .ensures) in
-    (r .0 ∙ spaced-sum 1 (a .place) _ ((a .week * n + 0) * n + a .product) n n (λ j. (a .week * n + j) * n + a .product) (λ j. omega arith), r .1)
+    (spaced-sum 1 (a .place) _ ((a .week * n + 0) * n + a .product) n n (λ j. (a .week * n + j) * n + a .product) (λ j. omega arith) (r .0), r .1)
 
 pub into-sum-spec : {M : Type 1} → statement M
 into-sum-spec = tie.close (tie.spec (λ c κs. search needs) (λ c κs. search needs) sum-cells-requires returns)

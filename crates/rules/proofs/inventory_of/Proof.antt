@@ -9,7 +9,6 @@ use Rattle.mathematics.proofs.Join.{table-below}
 use Rattle.numbers.specs.Number.{Bytes}
 use Rattle.contents.specs.Contents.{cell}
 use Rattle.sections.proofs.Rows.{width4}
-use Rattle.sections.specs.Section.{Costs}
 use Rattle.plant_file.proofs.PlantInRange.{plant-ranges}
 use Rattle.plant_file.specs.Plant.{plantOf}
 use Rattle.plan_file.specs.Plan.{planOf}

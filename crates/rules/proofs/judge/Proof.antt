@@ -3,7 +3,7 @@ use borrow.Author.Needs.{needs}
 use borrow.Author.Tests.{not-true, not-false}
 use native.Mathlib.Omega.{arith}
 use mathlib.Core.Path.{_≡_, sym, ap, _∙_}
-use Prim.Native.Nat.{_+_, _-_, _≤_}
+use Prim.Native.Nat.{_-_, _≤_}
 use lib.IntN.{ℤ}
 use Rattle.numbers.specs.Number.{Bytes}
 use Rattle.plant_file.specs.Plant.{plantOf}

@@ -1,5 +1,4 @@
 -- `rules::pair_at` meets its contract. Assumes nothing.
-use borrow.Author.Needs.{needs}
 use borrow.Author.Tests.{ne-eqb}
 use Rattle.rules.specs.Places.{pairAt, pairsOf}
 use Rattle.rules.proofs.pair_at.Statement.{statement}

@@ -3,13 +3,13 @@ use borrow.Author.Needs.{needs}
 use native.Mathlib.Numerals.{add-one}
 use native.Mathlib.Omega.{arith}
 use mathlib.Core.Path.{_≡_, _∙_}
-use Prim.Native.Nat.{ℕ, _+_, _-_, _*_, _^_, _≤_, _<_}
+use Prim.Native.Nat.{_-_, _*_, _^_, _≤_}
 use Rattle.mathematics.specs.Below.{sumBelow}
 use Rattle.plant_file.proofs.PlantInRange.{plant-ranges}
 use Rattle.numbers.specs.Number.{Bytes}
 use Rattle.plant_file.specs.Plant.{plantOf}
 use Rattle.plan_file.specs.Plan.{planOf}
-use Rattle.rules.specs.Places.{Judged, costsOf}
+use Rattle.rules.specs.Places.{costsOf}
 use Rattle.rules.specs.Rules.{salesOf}
 use Rattle.rules.proofs.Profits.{profit-back, rule41-is}
 use Rattle.rules.proofs.profit_holds.Statement.{statement}
@@ -30,13 +30,6 @@ abbrev μ-loop : tie.MeasureT-loop
 weeks-most : (c : tie.After-count Inv-loop μ-loop) → c .count .result ≤ 26
 unfolding plantOf
 weeks-most c = omega (arith, plant-ranges _ _ (c .before .before .before .pre .0) .weeks-most, c .count .ensures .0)
-
-judged : (c : tie.In-loop Inv-loop μ-loop)
-    → Judged (c .before .before .before .before .before .args .plant .now) (c .before .before .before .before .before .args .plan .now)
-    (c .before .before .before .before .before .args .f) (c .before .loop .week)
-judged c =
-    let s = c .before .before .before .before .before in
-    record { plant = s .pre .0; plan = s .pre .1; week = omega (arith, c .before .before .count .ensures .0) }
 
 add-gained : tie.Need-add-gained Inv-loop μ-loop
 add-gained c =
@@ -80,6 +73,6 @@ returns c =
 pub profit-holds-spec : {M : Type 1} → statement M
 profit-holds-spec =
     tie.close
-    (tie.spec Inv-loop μ-loop (λ c κs. search needs) (λ c. search needs) (λ c κs. judged c)
-    (λ c κs. judged (c .before)) add-gained add-lost (λ c. search needs) (λ c. search needs) loop-again
+    (tie.spec Inv-loop μ-loop (λ c κs. search needs) (λ c. search needs) (λ c κs. search needs)
+    (λ c κs. search needs) add-gained add-lost (λ c. search needs) (λ c. search needs) loop-again
     (λ c κs. search needs) is-profit-requires returns)

@@ -1,7 +1,7 @@
 -- `rules::sold` meets its contract. Assumes nothing.
 use borrow.Author.Needs.{needs}
 use native.Mathlib.Omega.{arith}
-use mathlib.Core.Path.{refl, _∙_}
+use mathlib.Core.Path.{refl}
 use Prim.Native.Nat.{_+_, _*_}
 use Rattle.sections.proofs.Rows.{width4}
 use Rattle.sections.proofs.Tables.{cube-below}
@@ -26,7 +26,7 @@ returns c =
     let m = a .f .weeks in
     let b = c .before in
     let r = rw (b .count .ensures .0, b .before .area .ensures .0, b .before .before .index3 .ensures .0) at (c .sum-cells .ensures) in (
-      r .0 ∙ spaced-sum 4 8 _ ((0 * n + a .product) * m + a .week) (n * m) (a .f .customers) (λ j. (j * n + a .product) * m + a .week) (λ j. omega arith),
+      spaced-sum 4 8 _ ((0 * n + a .product) * m + a .week) (n * m) (a .f .customers) (λ j. (j * n + a .product) * m + a .week) (λ j. omega arith) (r .0),
       omega (arith, r .1),
     )
 

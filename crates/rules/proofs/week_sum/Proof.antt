@@ -1,7 +1,6 @@
 -- `rules::week_sum` meets its contract. Assumes nothing.
 use borrow.Author.Needs.{needs}
 use native.Mathlib.Omega.{arith}
-use mathlib.Core.Path.{_∙_}
 use Prim.Native.Nat.{_+_, _*_}
 use Rattle.mathematics.proofs.Join.{table-below}
 use Rattle.rules.proofs.Spacing.{byte-times, spaced, spaced-sum}
@@ -21,7 +20,7 @@ returns c =
     let a = c .before .before .before .args in
     let n = a .f .products in
     let r = rw (c .before .count .ensures .0) at (c .sum-cells .ensures) in
-    (r .0 ∙ spaced-sum (a .k) (a .place) _ (a .week * n) 1 n (λ j. a .week * n + j) (λ j. omega arith), r .1)
+    (spaced-sum (a .k) (a .place) _ (a .week * n) 1 n (λ j. a .week * n + j) (λ j. omega arith) (r .0), r .1)
 
 pub week-sum-spec : {M : Type 1} → statement M
 week-sum-spec =

@@ -25,9 +25,12 @@ place : (c : tie.In-loop Inv-loop μ-loop) → c .before .loop .pair + 1 ≤ 128
 place c = omega (arith, c .loop-test .taken, c .before .before .area .ensures .0, counts _ _ (c .before .before .before .before .pre .0) .pairs)
 
 -- one pair's charge is small
-small : (c : tie.After-sum Inv-loop μ-loop)
-    → c .before .pair-backlog-cost .result * getD (c .before .before .before .before .before .before .args .self .backlog) (c .before .before .before .loop .pair) 0 ≤ 100000 * (100000000 * 27)
-small c = mul-le-mul (c .before .pair-backlog-cost .ensures .1) (c .before .before .before .before .before .before .pre .1 .backlog-most _ (omega (arith, c .before .before .before .before .area .ensures .0)))
+small : (c : tie.After-sum Inv-loop μ-loop) → let start = c .before .before .before .before .before .before in let turn = c .before .before .before in
+    c .before .pair-backlog-cost .result * getD (start .args .self .backlog) (turn .loop .pair) 0 ≤ 100000 * (100000000 * 27)
+small c =
+    let start = c .before .before .before .before .before .before in
+    let counted = c .before .before .before .before in
+    mul-le-mul (c .before .pair-backlog-cost .ensures .1) (start .pre .1 .backlog-most _ (omega (arith, counted .area .ensures .0)))
 
 loop-again : tie.Need-loop-again Inv-loop μ-loop
 loop-again c = (search needs, rw (add-one, ← (c .before .pair-backlog-cost .ensures .0)) (omega arith), omega (arith, small c))
@@ -35,8 +38,9 @@ loop-again c = (search needs, rw (add-one, ← (c .before .pair-backlog-cost .en
 returns : tie.Need-returns Inv-loop μ-loop
 unfolding plantOf
 returns c =
-    let e : c .before .loop .pair ≡ c .before .before .before .before .args .f .customers * c .before .before .before .before .args .f .products = omega arith in
-    (rw (charge-flat, ← e) (c .before .loop .inv .1), omega (arith, counts _ _ (c .before .before .before .before .pre .0) .pairs))
+    let start = c .before .before .before .before in
+    let e : c .before .loop .pair ≡ start .args .f .customers * start .args .f .products = omega arith in
+    (rw (charge-flat, ← e) (c .before .loop .inv .1), omega (arith, counts _ _ (start .pre .0) .pairs))
 
 pub backlog-charge-spec : {M : Type 1} → statement M
 backlog-charge-spec =

@@ -10,15 +10,15 @@ use Rattle.machine.specs.State.{inventoryOf, withInventory, updateRow}
 use Rattle.machine.specs.Machine.{inventoryAfter}
 use Rattle.machine.specs.Files.{salesOf}
 use Rattle.machine.proofs.Plants.{counts}
-use Rattle.machine.proofs.Steps.{stock-at}
-use Rattle.machine.proofs.Stores.{inventory-next, inventory-stored}
+use Rattle.machine.proofs.Steps.{sold-at}
+use Rattle.machine.proofs.Stores.{inventory, cell-next, cell-stored}
 use Rattle.machine.proofs.State.inventory_after.Statement.{statement}
 use Rattle.machine.proofs.State.inventory_after.Tie as tie
 
 abbrev Inv-loop : tie.InvT-loop
 Inv-loop plant slots f week s₀ products product₀ s product =
     (product ≤ products)
-    × (s ≡ withInventory s₀ (updateRow 0 product (λ i stock. stock - sumBelow (f .customers) (λ k. salesOf f slots week k i)) (s₀ .inventory)))
+    × (s ≡ withInventory s₀ (updateRow 0 product (λ i before. before - sumBelow (f .customers) (λ k. salesOf f slots week k i)) (s₀ .inventory)))
 
 abbrev μ-loop : tie.MeasureT-loop
 μ-loop plant slots f week s₀ products product₀ s product = products - product
@@ -31,9 +31,10 @@ place : (c : tie.In-loop Inv-loop μ-loop) → c .before .loop .product + 1 ≤ 
 place c = omega (arith, known c, counts _ _ (c .before .before .before .before .before .pre .0 .plant-good) .products)
 
 -- its inventory is as it was
-same : (c : tie.In-loop Inv-loop μ-loop)
-    → getD (c .before .loop .s .inventory) (c .before .loop .product) 0 ≡ getD (c .before .before .before .before .before .args .self .inventory) (c .before .loop .product) 0
-same c = inventory-next _ _ _ _ (c .before .loop .inv .1)
+same : (c : tie.In-loop Inv-loop μ-loop) → let start = c .before .before .before .before .before in
+    getD (c .before .loop .s .inventory) (c .before .loop .product) 0 ≡ getD (start .args .self .inventory) (c .before .loop .product) 0
+unfolding withInventory
+same c = cell-next inventory _ _ _ _ (c .before .loop .inv .1)
 
 loop-holds : tie.Need-loop-holds Inv-loop μ-loop
 unfolding withInventory
@@ -41,11 +42,13 @@ loop-holds c = (search needs, refl)
 
 sub-s : tie.Need-sub-s Inv-loop μ-loop
 unfolding plantOf inventoryOf
-sub-s c = omega (arith, same (c .before .before), stock-at _ _ _ (c .before .before .before .before .before .before .before .pre .1) _ (known (c .before .before)), c .sold-of .ensures)
+sub-s c =
+    let start = c .before .before .before .before .before .before .before in
+    omega (arith, same (c .before .before), sold-at _ _ _ (start .pre .1) _ (known (c .before .before)), c .sold-of .ensures)
 
 loop-again : tie.Need-loop-again Inv-loop μ-loop
 unfolding withInventory
-loop-again c = (search needs, inventory-stored _ _ _ _ (c .before .before .before .loop .inv .1) _ (rw (same (c .before .before), c .sold-of .ensures)))
+loop-again c = (search needs, cell-stored inventory _ _ _ _ (c .before .before .before .loop .inv .1) _ (rw (same (c .before .before), c .sold-of .ensures)))
 
 returns : tie.Need-returns Inv-loop μ-loop
 unfolding plantOf inventoryAfter

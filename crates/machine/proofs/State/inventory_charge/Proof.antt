@@ -25,10 +25,13 @@ place : (c : tie.In-loop Inv-loop μ-loop) → c .before .loop .product + 1 ≤ 
 place c = omega (arith, c .loop-test .taken, c .before .before .count .ensures .0, counts _ _ (c .before .before .before .before .pre .0) .products)
 
 -- one product's charge is small
-small : (c : tie.After-sum Inv-loop μ-loop)
-    → c .before .inventory-cost .result * getD (c .before .before .before .before .before .before .args .self .inventory) (c .before .before .before .loop .product) 0 ≤ 100000 * (4000000000 + 16 * 1100000000)
+small : (c : tie.After-sum Inv-loop μ-loop) → let start = c .before .before .before .before .before .before in let turn = c .before .before .before in
+    c .before .inventory-cost .result * getD (start .args .self .inventory) (turn .loop .product) 0 ≤ 100000 * (4000000000 + 16 * 1100000000)
 unfolding inventoryOf
-small c = mul-le-mul (c .before .inventory-cost .ensures .1) (c .before .before .before .before .before .before .pre .1 .inventory-most _ (omega (arith, c .before .before .before .before .count .ensures .0)))
+small c =
+    let start = c .before .before .before .before .before .before in
+    let counted = c .before .before .before .before in
+    mul-le-mul (c .before .inventory-cost .ensures .1) (start .pre .1 .inventory-most _ (omega (arith, counted .count .ensures .0)))
 
 loop-again : tie.Need-loop-again Inv-loop μ-loop
 unfolding inventoryOf

@@ -17,23 +17,25 @@ ran : (c : tie.After-run-slots) → let a = c .before .before .before .before .a
     c .run-slots .result ≡ runSlots (plantOf (a .f) (a .plant .now)) (slotsOf (a .f) (a .slots .now) .line .week (a .week)) (weekBegin (a .self))
 ran c =
     let a = c .before .before .before .before .args in
-    c .run-slots .ensures ∙ ap (runSlots (plantOf (a .f) (a .plant .now)) (slotsOf (a .f) (a .slots .now) .line .week (a .week))) (c .before .week-begin .ensures)
+    let slots = slotsOf (a .f) (a .slots .now) .line .week (a .week) in
+    c .run-slots .ensures ∙ ap (runSlots (plantOf (a .f) (a .plant .now)) slots) (c .before .week-begin .ensures)
 
 week-end-requires : tie.Need-week-end-requires
 week-end-requires c κs =
-    let s = c .before .before .before .before .before .before in
-    let fit = slots-fit (s .args .f) (s .args .slots .now) (λ i. omega (arith, c .before .before .before .before .shared-slice-known2 .given i)) (s .pre .0 .slots-good) in
-    let r = c .before .before .run-slots .result in (
-      s .pre .0,
-      week-slots-kept _ _ (s .pre .0 .plant-good) _ fit (s .pre .0 .week-known) (s .pre .2) (r .state) (sym (ran (c .before .before)) ∙ went r (c .enum-told2 .given .1)),
-    )
+    let known = c .before .before .before .before in
+    let s = known .before .before in
+    let p = s .pre .0 in
+    let fit = slots-fit (s .args .f) (s .args .slots .now) (λ i. omega (arith, known .shared-slice-known2 .given i)) (p .slots-good) in
+    let r = c .before .before .run-slots .result in
+    let goes = sym (ran (c .before .before)) ∙ went r (c .enum-told2 .given .1) in
+    (p, week-slots-kept _ _ (p .plant-good) _ fit (p .week-known) (s .pre .2) (r .state) goes)
 
 pub run-week-spec : {M : Type 1} → statement M
 run-week-spec =
     tie.close
     (tie.spec
     (λ c κs. search needs)
-    (λ c κs. (c .before .before .before .pre .0, c .before .before .before .pre .1, rw (c .week-begin .ensures) (begin-sane (c .before .before .before .pre .2))))
+    (λ c κs. let p = c .before .before .before .pre in (p .0, p .1, rw (c .week-begin .ensures) (begin-sane (p .2))))
     (λ c. search needs)
     (λ c. sym (week-stop _ _ _ _ _ (ran (c .before .before)) _ (c .enum-told .given .1)))
     (λ c. search needs)

@@ -21,19 +21,27 @@ abbrev μ-loop : tie.MeasureT-loop
 
 -- the pair has a place in the array
 place : (c : tie.In-loop Inv-loop μ-loop) → c .before .loop .pair + 1 ≤ 128
-place c = omega (arith, c .loop-test .taken, c .before .before .area .ensures .0, counts _ _ (c .before .before .before .before .before .pre .0 .plant-good) .pairs)
+place c =
+    let start = c .before .before .before .before .before in
+    omega (arith, c .loop-test .taken, c .before .before .area .ensures .0, counts _ _ (start .pre .0 .plant-good) .pairs)
 
 add-due : tie.Need-add-due Inv-loop μ-loop
-add-due c = omega (arith, c .before .before .before .before .before .before .before .pre .1 .backlog-most (c .before .before .before .loop .pair) (omega (arith, c .before .before .before .before .area .ensures .0)), c .pair-demand .ensures .1)
+add-due c =
+    let start = c .before .before .before .before .before .before .before in
+    let counted = c .before .before .before .before in
+    let turn = c .before .before .before in
+    omega (arith, start .pre .1 .backlog-most (turn .loop .pair) (omega (arith, counted .area .ensures .0)), c .pair-demand .ensures .1)
 
 loop-again : tie.Need-loop-again Inv-loop μ-loop
 loop-again c =
-    (search needs, rw (add-one, c .and .ensures, c .before .before .before .before .before .loop .inv .1, c .before .pair-sales .ensures .0, c .before .before .pair-demand .ensures .0))
+    let turn = c .before .before .before .before .before in
+    (search needs, rw (add-one, c .and .ensures, turn .loop .inv .1, c .before .pair-sales .ensures .0, c .before .before .pair-demand .ensures .0))
 
 returns : tie.Need-returns Inv-loop μ-loop
 unfolding plantOf
 returns c =
-    let e : c .before .loop .pair ≡ c .before .before .before .before .before .args .f .customers * c .before .before .before .before .before .args .f .products = omega arith in
+    let start = c .before .before .before .before .before in
+    let e : c .before .loop .pair ≡ start .args .f .customers * start .args .f .products = omega arith in
     rw (due-flat, ← e) (c .before .loop .inv .1)
 
 pub sales-due-spec : {M : Type 1} → statement M

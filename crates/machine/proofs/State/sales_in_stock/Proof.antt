@@ -23,7 +23,9 @@ abbrev μ-loop : tie.MeasureT-loop
 
 -- the product has a place in the array
 place : (c : tie.In-loop Inv-loop μ-loop) → c .before .loop .product + 1 ≤ 16
-place c = omega (arith, c .loop-test .taken, c .before .before .count .ensures .0, counts _ _ (c .before .before .before .before .before .pre .plant-good) .products)
+place c =
+    let start = c .before .before .before .before .before in
+    omega (arith, c .loop-test .taken, c .before .before .count .ensures .0, counts _ _ (start .pre .plant-good) .products)
 
 loop-again : tie.Need-loop-again Inv-loop μ-loop
 unfolding inventoryOf

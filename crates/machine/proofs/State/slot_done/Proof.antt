@@ -22,7 +22,7 @@ returns c =
     let clocked = c .before .before .before .before .before .before .before in
     let made = clocked .before .before .before in
     let over = made .before .before in
-    rw (← (clocked .clock-after .ensures), ← (over .changeover-to .ensures .cents), ← (c .before .before .before .before .before .pay .ensures))
+    rw (← (clocked .clock-after .ensures), ← (over .changeover-to .ensures .cents), ← (c .before .before .before .before .before .pay .ensures .0))
     (rw (← (made .before .rate .ensures .0), ← (made .produced .ensures .0)))
 
 pub slot-done-spec : {M : Type 1} → statement M

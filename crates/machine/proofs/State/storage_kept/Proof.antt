@@ -27,8 +27,11 @@ place c = omega (arith, c .loop-test .taken, c .before .before .count .ensures .
 loop-again : tie.Need-loop-again Inv-loop μ-loop
 unfolding inventoryOf
 loop-again c =
+    let turn = c .before .before .before .before .before .before in
     let kept = c .before .before .before in
-    (search needs, rw (add-one, c .and .ensures, c .before .inside .ensures, c .before .before .before .before .before .before .loop .inv .1, kept .greatest-storage .ensures .0, kept .before .least-storage .ensures .0))
+    let most = kept .greatest-storage .ensures .0 in
+    let least = kept .before .least-storage .ensures .0 in
+    (search needs, rw (add-one, c .and .ensures, c .before .inside .ensures, turn .loop .inv .1, most, least))
 
 returns : tie.Need-returns Inv-loop μ-loop
 unfolding plantOf storageKept

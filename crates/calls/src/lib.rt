@@ -1,0 +1,37 @@
+// Checking a plan, and what the calls that write answer.
+ghost use mathlib.Core.Path.{_≡_};
+ghost use Rattle.calls.specs.Check.{checkOf};
+use machine::Profit;
+use plan_file::plan_form;
+use plant_file::plant_form;
+use rules::Verdict;
+use rules::judge;
+use sections::Form;
+
+// What checking says of a plan: its profit, or the number of its refusal.
+pub enum Check {
+    Passed(Profit),
+    Refused(u32),
+}
+
+// What a call that writes says: the length of what it wrote, or the number of its refusal.
+pub enum Written {
+    Length(usize),
+    Refused(u32),
+}
+
+// Level A: the plant's rows, then the plan's, then the rules, each in order.
+pub fn check_plan(plant: &[u8], plan: &[u8]) -> Check
+    ensures { λ r. ⌜ r ≡ checkOf (now (plant .entry)) (now (plan .entry)) ⌝ }
+{
+    match plant_form(plant) {
+        Form::Refused(n) => Check::Refused(n),
+        Form::Good(f) => match plan_form(plan, f) {
+            Form::Refused(n) => Check::Refused(n),
+            Form::Good(_) => match judge(plant, plan, f) {
+                Verdict::Passed(p) => Check::Passed(p),
+                Verdict::Broken(n) => Check::Refused(n),
+            },
+        },
+    }
+}

@@ -1,0 +1,3 @@
+pub mod SameRuns
+pub mod ThirdDemandHolds
+pub mod OtherDemandsHold

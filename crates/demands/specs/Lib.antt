@@ -1,0 +1,3 @@
+pub mod FirstDemand
+pub mod SecondDemand
+pub mod ThirdDemand

@@ -1,0 +1,2 @@
+pub mod ShownFile
+pub mod PassedPlan

@@ -1,0 +1,4 @@
+pub mod WeekSums
+pub mod WeekSlots
+pub mod RunWeeks
+pub mod BodyNumbers

@@ -28,7 +28,7 @@ use slot_file::write_contents;
 use slot_file::write_slot;
 
 // How many slots a week has.
-fn week_count(plan: &[u8], f: Shape, week: usize) -> usize
+pub fn week_count(plan: &[u8], f: Shape, week: usize) -> usize
     requires { ⌜ (planForm f (now plan) ≡ Good f) × (week < f .weeks) ⌝ }
     ensures { λ r. ⌜ (r ≡ weekCount f (now (plan .entry)) week) × (r ≤ f .products) ⌝ }
 {
@@ -58,7 +58,7 @@ fn slot_total(plan: &[u8], f: Shape) -> usize
 }
 
 // The product of slot k of a week: the first whose place in the week is k + 1, or N where there is none.
-fn product_at(plan: &[u8], f: Shape, week: usize, k: usize) -> usize
+pub fn product_at(plan: &[u8], f: Shape, week: usize, k: usize) -> usize
     requires { ⌜ (planForm f (now plan) ≡ Good f) × (week < f .weeks) × (k < 256) ⌝ }
     ensures { λ r. ⌜ r ≡ weekProduct f (now (plan .entry)) week k ⌝ }
 {

@@ -1,0 +1,36 @@
+/* Doxkarin: the judge of weekly production plans. Link with libdoxkarin.a (rt staticlib doxkarin).
+ *
+ * Each call returns 0, or the number of the refusal; on a refusal nothing behind a pointer is changed. A file is a pointer to its bytes and
+ * their count. A pointer with a count of 0 must still not be null. The output may not overlap an input. */
+#ifndef DOXKARIN_H
+#define DOXKARIN_H
+
+#include <stddef.h>
+#include <stdint.h>
+
+#ifdef __cplusplus
+extern "C" {
+#endif
+
+/* Level A: checks a plan file against a plant file, and gives its profit in thousandths of a cent. */
+uint32_t doxkarin_check(const uint8_t *plant, size_t plant_length,
+                        const uint8_t *plan, size_t plan_length,
+                        int64_t *profit);
+
+/* Level B: writes the slot file of a plan that passes to the start of out, and gives its length. 51 if out is shorter. */
+uint32_t doxkarin_slots(const uint8_t *plant, size_t plant_length,
+                        const uint8_t *plan, size_t plan_length,
+                        uint8_t *out, size_t out_length,
+                        uint64_t *length);
+
+/* Level C: writes the plan file of a slot file's run to the start of out, and gives its length. 51 if out is shorter. */
+uint32_t doxkarin_plan(const uint8_t *plant, size_t plant_length,
+                       const uint8_t *slots, size_t slots_length,
+                       uint8_t *out, size_t out_length,
+                       uint64_t *length);
+
+#ifdef __cplusplus
+}
+#endif
+
+#endif

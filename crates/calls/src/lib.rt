@@ -1,5 +1,6 @@
 // Checking a plan, and what the calls that write answer.
 ghost use mathlib.Core.Path.{_≡_};
+ghost use Rattle.calls.specs.declared.Written.the-variants.{Refused};
 ghost use Rattle.calls.specs.Check.{checkOf};
 use machine::Profit;
 use plan_file::plan_form;
@@ -34,4 +35,11 @@ pub fn check_plan(plant: &[u8], plan: &[u8]) -> Check
             },
         },
     }
+}
+
+// What a call that writes does where it refuses: the number only, and the output stays as it was.
+pub fn refuse(out: &mut [u8], n: u32) -> Written
+    ensures { λ r. ⌜ (r ≡ Refused n) × (now (out .exit) ≡ now (out .entry)) ⌝ }
+{
+    Written::Refused(n)
 }

@@ -2,14 +2,12 @@
 use Prim.Native.Nat.{ℕ, _≤_, _<_}
 use mathlib.Core.Path.{_≡_, refl, sym, ap, _∙_}
 use mathlib.Core.Logic.{_↔_}
-use mathlib.Core.Bool.{Bool, true, false}
 use mathlib.Core.List.{List}
 use native.Mathlib.Omega.{arith}
 use lib.ListN.{length}
-use lib.Dec.{leb}
-use borrow.Author.Tests.{leb-false, lt-leb}
 use Rattle.numbers.specs.Number.{Bytes}
 use Rattle.sections.specs.declared.Shape.{Shape}
+use Rattle.sections.specs.declared.Form.{Form}
 use Rattle.sections.specs.declared.Form.the-variants as form
 use Rattle.plant_file.specs.Plant.{plantOf}
 use Rattle.plant_file.specs.Form.{plantForm}
@@ -17,14 +15,31 @@ use Rattle.plant_file.proofs.PlantInRange.{plant-ranges}
 use Rattle.plan_file.specs.Plan.{planOf}
 use Rattle.plan_file.specs.Form.{planForm}
 use Rattle.plan_file.proofs.PlanReads.{plan-fits}
+use Rattle.rules.specs.declared.Verdict.{Verdict}
+use Rattle.rules.specs.declared.Verdict.the-variants as verdict
+use Rattle.rules.specs.Verdict.{verdictOf}
+use Rattle.calls.specs.declared.Check.{Check}
+use Rattle.calls.specs.declared.Check.the-variants as check
 use Rattle.calls.specs.declared.Written.the-variants as written
-use Rattle.calls.specs.Check.{checkOf}
-use Rattle.calls.specs.Answer.{Answer, bytes, refused, lengthIn, putIn, slotAnswer, planAnswer, writtenIn, outputAfter}
+use Rattle.calls.specs.Check.{checkRows, checkRules, checkOf}
+use Rattle.calls.specs.Answer.{Answer, bytes, refused, formAnswer, ruleAnswer, slotAnswer, planAnswer, writtenIn, outputAfter}
+use Rattle.calls.proofs.Output.{too-short, refused-short}
 use Rattle.model.proofs.Agreement.{fits-binary}
 use Rattle.model.proofs.ModelTheorem.{model-rules, passed-objective}
 use Rattle.demands.specs.FirstDemand.{FirstDemand, RefusalsKeep}
 use Rattle.demands.specs.SecondDemand.{SecondDemand}
 use Rattle.demands.proofs.ThirdDemandHolds.{passed-parts, parts-passed}
+
+-- ---- the same number, by rows and by rules
+rows-alike : (r : Form) (next : Shape → Check) (after : Shape → Answer) (n : ℕ)
+    → ((f : Shape) → (next f ≡ check.Refused n) ↔ (after f ≡ refused n)) → (checkRows r next ≡ check.Refused n) ↔ (formAnswer r after ≡ refused n)
+rows-alike (form.Good f) next after n h = h f
+rows-alike (form.Refused m) next after n h = (λ e. let i : m ≡ n = cc in ap refused i, λ e. let i : m ≡ n = cc in ap check.Refused i)
+
+rules-alike : (v : Verdict) (b : List ℕ) (n : ℕ) → (checkRules v ≡ check.Refused n) ↔ (ruleAnswer v (bytes b) ≡ refused n)
+rules-alike (verdict.Passed q) b n =
+    (λ e. absurd (let z : _≡_ {A = ℕ} 0 1 = cc in omega arith), λ e. absurd (let z : _≡_ {A = ℕ} 0 1 = cc in omega arith))
+rules-alike (verdict.Broken m) b n = (λ e. let i : m ≡ n = cc in ap refused i, λ e. let i : m ≡ n = cc in ap check.Refused i)
 
 pub first-demand : (plant plan slots : List ℕ) → FirstDemand plant plan slots
 unfolding checkOf slotAnswer planAnswer
@@ -33,33 +48,23 @@ first-demand plant plan slots =
       plant-refused = λ n e. (rw e, rw e, rw e);
       plan-refused = λ f n e h. (rw (e, h), rw (e, h));
       rule-broken = λ f n e h v. (rw (e, h, v), rw (e, h, v));
+      refused-alike = λ n. rows-alike (plantForm plant) _ _ n (λ f. rows-alike (planForm f plan) _ _ n (λ _. rules-alike (verdictOf (plantOf f plant) (planOf f plan)) _ n));
       slots-refused = λ f n e h. rw (e, h);
       run-stopped = λ f n e h r. rw (e, h, r);
     }
 
--- the answer of an output that is long enough is a length
-not-refused : (t : Bool) (n m : ℕ) → lengthIn t n ≡ written.Refused m → t ≡ false
-not-refused true n m e = absurd (let z : _≡_ {A = ℕ} 0 1 = cc in omega arith)
-not-refused false n m e = refl
-
+-- ---- a refusal leaves the output
 kept : (a : Answer) (out : List ℕ) (n : ℕ) → writtenIn a out ≡ written.Refused n → outputAfter a out ≡ out
-unfolding writtenIn outputAfter
-kept (bytes b) out n e = let t = not-refused (leb (length b) (length out)) (length b) n e in rw t
+unfolding outputAfter
+kept (bytes b) out n e = too-short b out (refused-short b out n e) .1
 kept (refused m) out n e = refl
-
-short : (b out : List ℕ) → (writtenIn (bytes b) out ≡ written.Refused 51) ↔ (length out < length b)
-unfolding writtenIn
-short b out = (
-  λ e. leb-false (length b) (length out) (not-refused (leb (length b) (length out)) (length b) 51 e),
-  λ h. rw (lt-leb (length b) (length out) h),
-)
 
 pub refusals-keep : (answer : Answer) (out : List ℕ) → RefusalsKeep answer out
 unfolding writtenIn
 refusals-keep answer out =
     record {
       returned = λ n e. rw e;
-      too-short = λ b e. rw e (short b out);
+      too-short = λ b e. rw e (refused-short b out 51, λ h. too-short b out h .0);
       untouched = kept answer out;
     }
 

@@ -6,7 +6,6 @@ use mathlib.Core.Bool.{Bool, true, false}
 use mathlib.Core.List.{List, [], _∷_, _++_}
 use native.Mathlib.Omega.{arith}
 use lib.ListN.{length, getD, drop}
-use borrow.Author.Tests.{le-leb}
 use Rattle.numbers.specs.Number.{Bytes}
 use Rattle.sections.specs.declared.Shape.{Shape}
 use Rattle.sections.specs.declared.Form.{Form}
@@ -45,7 +44,8 @@ use Rattle.calls.specs.declared.Check.{Check}
 use Rattle.calls.specs.declared.Check.the-variants.{Passed, Refused}
 use Rattle.calls.specs.declared.Written.the-variants.{Length}
 use Rattle.calls.specs.Check.{checkRows, checkRules, checkOf}
-use Rattle.calls.specs.Answer.{Answer, bytes, refused, slotAnswer, planAnswer, writtenIn, outputAfter}
+use Rattle.calls.specs.Answer.{bytes, slotAnswer, planAnswer}
+use Rattle.calls.proofs.Output.{long-enough}
 use Rattle.demands.specs.ThirdDemand.{GivesFile, ThirdDemand}
 use Rattle.demands.proofs.SameRuns.{run-same, tables-same}
 
@@ -57,12 +57,6 @@ rows-passed (form.Refused n) next q e = absurd (let z : _≡_ {A = ℕ} 0 1 = cc
 rules-passed : (v : Verdict) (q : Profit) → checkRules v ≡ Passed q → v ≡ verdict.Passed q
 rules-passed (verdict.Passed p) q e = let h : p ≡ q = cc in ap verdict.Passed h
 rules-passed (verdict.Broken n) q e = absurd (let z : _≡_ {A = ℕ} 0 1 = cc in omega arith)
-
--- bytes that fit are written, and their length returned
-fitting : (r out : List ℕ) → length r ≤ length out
-    → (writtenIn (bytes r) out ≡ Length (length r)) × (outputAfter (bytes r) out ≡ r ++ drop (length r) out)
-unfolding writtenIn outputAfter
-fitting r out h = (rw (le-leb (length r) (length out) h), rw (le-leb (length r) (length out) h))
 
 -- the k-th product of the slots in running order
 order-product : (xs : List Slot) (k : ℕ) → getD (orderOfSlots xs) k 0 ≡ getD xs k (record { product = 0; minutes = 0 }) .product
@@ -191,7 +185,7 @@ module _ (plant : List ℕ) (f : Shape) (accepted : plantForm plant ≡ Good f) 
         );
         only-one = λ a c s t g h.
             same-slots.slots-equal f a c (g .bytes) (h .bytes) (g .rows) (h .rows) .1 (one-slots R (given a s g) (given c t h));
-        slots-returned = λ slots s g out l. rw (slot-answer slots s g) (fitting slots out l);
-        plan-again = λ slots s g out l. rw (plan-answer slots s g) (fitting plan out l);
+        slots-returned = λ slots s g out l. rw (slot-answer slots s g) (long-enough slots out l);
+        plan-again = λ slots s g out l. rw (plan-answer slots s g) (long-enough plan out l);
         profit-of-run = passes;
       }

@@ -30,6 +30,8 @@ pub record FirstDemand (plant plan slots : List ℕ) : Type 0 where
       → (checkOf plant plan ≡ check.Refused n) × (slotAnswer plant plan ≡ refused n)
   pub rule-broken : (f : Shape) (n : ℕ) → plantForm plant ≡ form.Good f → planForm f plan ≡ form.Good f
       → verdictOf (plantOf f plant) (planOf f plan) ≡ verdict.Broken n → (checkOf plant plan ≡ check.Refused n) × (slotAnswer plant plan ≡ refused n)
+  -- so slot return refuses what checking refuses, with the same number
+  pub refused-alike : (n : ℕ) → (checkOf plant plan ≡ check.Refused n) ↔ (slotAnswer plant plan ≡ refused n)
   -- or the slots' rows 21 to 24, then the run's first stop
   pub slots-refused : (f : Shape) (n : ℕ) → plantForm plant ≡ form.Good f → slotForm f slots ≡ form.Refused n → planAnswer plant slots ≡ refused n
   pub run-stopped : (f : Shape) (n : ℕ) → plantForm plant ≡ form.Good f → slotForm f slots ≡ form.Good f

@@ -13,7 +13,7 @@ use Rattle.plant_file.specs.Ranges.{PlantRanges}
 use Rattle.plant_file.proofs.PlantInRange.{plant-ranges}
 use Rattle.slot_file.specs.Slots.{Slot, Slots, slotCount, slotsBefore, slotsOf}
 use Rattle.slot_file.specs.Form.{slotForm}
-use Rattle.slot_file.proofs.SlotReads.{slot-good, slot-shape, week-length, week-slot, slot-below}
+use Rattle.slot_file.proofs.SlotReads.{slot-good, week-length, week-slot, slot-below}
 use Rattle.machine.specs.declared.State.{State}
 use Rattle.machine.specs.State.{inventoryOf, backlogOf, continues}
 use Rattle.machine.specs.Run.{opening, run, after}
@@ -55,10 +55,6 @@ formed f plant slots e w l =
           rw (order-at xs k (record { product = 0; minutes = 0 }) (omega arith), week-slot f slots w k _ b)
           (h .product (slotsBefore slots w + k) (slot-below slots (f .weeks) w k l b));
     }
-
--- a good slot file has the plant's shape
-pub own-shape : (f g : Shape) (s : List ℕ) → slotForm f s ≡ Good g → slotForm f s ≡ Good f
-own-shape f g s e = e ∙ ap Good (slot-shape f g s e)
 
 -- ZF by the slots alone
 pub passage-is : (f : Shape) (plant slots : List ℕ) → slotForm f slots ≡ Good f → (w i j : ℕ) → w < f .weeks

@@ -15,11 +15,12 @@ ghost use Rattle.plan_file.specs.File.{planBodies, planFile};
 ghost use Rattle.slot_file.specs.Slots.{slotsBefore, slotsOf};
 ghost use Rattle.slot_file.specs.Form.{slotForm};
 ghost use Rattle.model.specs.RunTables.{orderOfSlots, whoFirst, whoLast, neighbours, runTables};
-ghost use Rattle.calls.specs.declared.Written.the-variants.{Length, Refused};
+ghost use Rattle.calls.specs.declared.Written.the-variants.{Length};
 ghost use Rattle.calls.specs.Answer.{bytes, planAnswer, writtenIn, outputAfter};
 ghost use Rattle.plan_writing.specs.Run.{Ran, Tallied, Located, passage};
 ghost use Rattle.plan_writing.specs.Bodies.{widthIn, countIn, numberIn};
 use calls::Written;
+use calls::refuse;
 use machine::Outcome;
 use machine::Profit;
 use machine::run;
@@ -354,13 +355,6 @@ fn write_plan(out: &mut [u8], plant: &[u8], slots: &[u8], f: Shape, profit: u64)
 {
     write_file(out, plant, slots, f, profit);
     Written::Length(plan_length(f))
-}
-
-// Refuses: the number only, and the output stays as it was.
-fn refuse(out: &mut [u8], n: u32) -> Written
-    ensures { λ r. ⌜ (r ≡ Refused n) × (now (out .exit) ≡ now (out .entry)) ⌝ }
-{
-    Written::Refused(n)
 }
 
 // Writes the plan of a run that never stops, where the output has room for it.

@@ -1,5 +1,5 @@
 -- A plan that passes the rules has a product at each slot of its weeks. Assumes nothing.
-use mathlib.Core.Path.{_≡_, ap, _∙_}
+use mathlib.Core.Path.{_≡_}
 use mathlib.Core.List.{List}
 use Prim.Native.Nat.{ℕ}
 use Rattle.mathematics.proofs.OrderTheorem.{product-at}
@@ -9,7 +9,7 @@ use Rattle.sections.specs.declared.Form.the-variants.{Good}
 use Rattle.plant_file.specs.Plant.{plantOf}
 use Rattle.plan_file.specs.Plan.{planOf}
 use Rattle.plan_file.specs.Form.{planForm}
-use Rattle.plan_file.proofs.PlanReads.{plan-fits, plan-shape}
+use Rattle.plan_file.proofs.PlanReads.{plan-fits}
 use Rattle.machine.specs.declared.Profit.{Profit}
 use Rattle.rules.specs.declared.Verdict.the-variants.{Passed}
 use Rattle.rules.specs.Rules.{weekOf}
@@ -18,10 +18,6 @@ use Rattle.model.proofs.RuleFacts.{verdict-rules}
 use Rattle.model.proofs.PlanRuns.{plan-meets}
 use Rattle.model.proofs.Agreement.{fits-binary}
 use Rattle.slot_return.specs.Shown.{weekCount, weekProduct, Ordered}
-
--- a plan that is good has the plant's shape
-pub own-shape : (f : Shape) (s : List ℕ) (g : Shape) → planForm f s ≡ Good g → planForm f s ≡ Good f
-own-shape f s g h = h ∙ ap Good (plan-shape f s h)
 
 pub passed-ordered : (f : Shape) (plant s : List ℕ) (q : Profit) → Bytes s → planForm f s ≡ Good f
     → verdictOf (plantOf f plant) (planOf f s) ≡ Passed q → Ordered f s

@@ -9,10 +9,11 @@ ghost use Rattle.sections.specs.declared.Form.the-variants.{Good};
 ghost use Rattle.plan_file.specs.Form.{planForm};
 ghost use Rattle.slot_file.specs.Form.{slotLengths};
 ghost use Rattle.slot_file.specs.File.{slotBytes, slotFile};
-ghost use Rattle.calls.specs.declared.Written.the-variants.{Length, Refused};
+ghost use Rattle.calls.specs.declared.Written.the-variants.{Length};
 ghost use Rattle.calls.specs.Answer.{bytes, slotAnswer, writtenIn, outputAfter};
 ghost use Rattle.slot_return.specs.Shown.{weekCount, weekProduct, weekSlots, shownIn, bodyOf, Ordered};
 use calls::Written;
+use calls::refuse;
 use contents::cell_in;
 use numbers::write;
 use plan_file::plan_form;
@@ -157,13 +158,6 @@ fn write_slots(out: &mut [u8], plan: &[u8], f: Shape, total: usize, size: usize)
 {
     write_file(out, plan, f, total);
     Written::Length(size)
-}
-
-// Refuses: the number only, and the output stays as it was.
-fn refuse(out: &mut [u8], n: u32) -> Written
-    ensures { λ r. ⌜ (r ≡ Refused n) × (now (out .exit) ≡ now (out .entry)) ⌝ }
-{
-    Written::Refused(n)
 }
 
 // Returns the slots of a plan that has passed, where the output has room for them.

@@ -10,13 +10,14 @@ use Rattle.plant_file.specs.Form.{plantForm}
 use Rattle.plan_file.specs.File.{planFile}
 use Rattle.slot_file.specs.Slots.{Slots, slotsOf}
 use Rattle.slot_file.specs.Form.{slotForm}
+use Rattle.slot_file.proofs.SlotReads.{slot-shape}
 use Rattle.machine.specs.declared.Outcome.the-variants.{Stops}
 use Rattle.machine.specs.declared.Step.{Step}
 use Rattle.machine.specs.Run.{run}
 use Rattle.model.specs.RunTables.{runTables}
 use Rattle.calls.specs.Answer.{bytes, planAnswer, writtenIn, outputAfter}
 use Rattle.plan_writing.specs.Run.{Ran}
-use Rattle.plan_writing.proofs.RunWeeks.{own-shape, profit-is}
+use Rattle.plan_writing.proofs.RunWeeks.{profit-is}
 use Rattle.plan_writing.proofs.plan_writing.Statement.{statement}
 use Rattle.plan_writing.proofs.plan_writing.Tie as tie
 
@@ -33,7 +34,7 @@ plant-good c = sym (c .before .before .before .plant-form .ensures) ∙ c .befor
 
 -- and the slots
 slots-good : (c : tie.After-enum-told) → let d = c .before .before .before in slotForm (shape d) (start d .args .slots .now) ≡ Good (shape d)
-slots-good c = own-shape _ _ _ (sym (c .before .before .slot-form .ensures) ∙ c .enum-told .given .1)
+slots-good c = let e = sym (c .before .before .slot-form .ensures) ∙ c .enum-told .given .1 in e ∙ ap Good (slot-shape _ _ _ e)
 
 abbrev plant : tie.After-known-told2 → Plant
 plant c = plantOf (shape c) (start c .args .plant .now)

@@ -1,16 +1,13 @@
 -- `slot_return::return_slots` meets its contract. Assumes nothing.
 use borrow.Author.Needs.{needs}
-use borrow.Author.Tests.{le-leb, lt-leb}
 use native.Mathlib.Omega.{arith}
-use native.Mathlib.Nat.{zero-add}
-use mathlib.Core.Path.{_≡_, sym, _∙_}
-use mathlib.Core.Bool.{true, false}
+use mathlib.Core.Path.{_≡_, sym, ap, _∙_}
 use mathlib.Core.List.{List}
-use Prim.Native.Nat.{ℕ}
-use lib.Dec.{leb}
+use Prim.Native.Nat.{ℕ, _≤_}
 use lib.ListN.{length}
 use Rattle.slot_file.specs.File.{slotFile}
-use Rattle.calls.specs.Answer.{writtenIn, outputAfter}
+use Rattle.calls.specs.declared.Written.the-variants.{Length}
+use Rattle.calls.proofs.Output.{too-short, long-enough, stored}
 use Rattle.slot_return.specs.Shown.{shownIn}
 use Rattle.slot_return.proofs.ShownFile.{file-length}
 use Rattle.slot_return.proofs.return_slots.Statement.{statement}
@@ -25,23 +22,22 @@ size c =
     let a = c .before .before .before .before .args in
     c .slot-length .ensures .0 ∙ rw (c .before .slot-total .ensures .0) (sym (file-length (a .f) (a .plan .now)))
 
+abbrev out : tie.After-slot-length → List ℕ
+out c = c .before .before .before .before .args .out .now
+
 returns : tie.Need-returns
-unfolding writtenIn outputAfter
 returns c =
     let d = c .before .before .before .before .before in
-    let out = d .before .before .before .before .args .out .now in
-    let short : leb (length (file d)) (length out) ≡ false = lt-leb (length (file d)) (length out) (omega (arith, size d)) in
+    let e = too-short (file d) (out d) (omega (arith, size d)) in
     let r = c .before .before .refuse .ensures in
-    (rw short (r .0), rw short (r .1))
+    (r .0 ∙ sym (e .0), r .1 ∙ sym (e .1))
 
 returns-2 : tie.Need-returns-2
-unfolding writtenIn outputAfter
 returns-2 c =
     let d = c .before .before .before .before .before in
-    let out = d .before .before .before .before .args .out .now in
-    let long : leb (length (file d)) (length out) ≡ true = le-leb (length (file d)) (length out) (omega (arith, size d)) in
+    let long : length (file d) ≤ length (out d) = omega (arith, size d) in
     let r = c .before .before .write-slots .ensures in
-    (rw (long, ← size d) (r .0), rw long (rw (zero-add (length (file d))) at (r .1)))
+    (r .0 ∙ (ap Length (size d) ∙ sym (long-enough (file d) (out d) long .0)), r .1 ∙ sym (stored (file d) (out d) long))
 
 pub return-slots-spec : {M : Type 1} → statement M
 return-slots-spec =

@@ -1,20 +1,21 @@
 -- `slot_return::slot_return` meets its contract: at each place it is known what the plant's rows, the plan's rows and the rules have said.
 -- Assumes nothing.
 use borrow.Author.Needs.{needs}
-use mathlib.Core.Path.{_≡_, sym, _∙_}
+use mathlib.Core.Path.{_≡_, sym, ap, _∙_}
 use Rattle.sections.specs.declared.Shape.{Shape}
 use Rattle.sections.specs.declared.Form.the-variants as form
 use Rattle.plant_file.specs.Plant.{plantOf}
 use Rattle.plant_file.specs.Form.{plantForm}
 use Rattle.plan_file.specs.Plan.{planOf}
 use Rattle.plan_file.specs.Form.{planForm}
+use Rattle.plan_file.proofs.PlanReads.{plan-shape}
 use Rattle.slot_file.specs.File.{slotFile}
 use Rattle.rules.specs.declared.Verdict.the-variants as verdict
 use Rattle.rules.specs.Verdict.{verdictOf}
 use Rattle.calls.specs.Answer.{bytes, slotAnswer, writtenIn, outputAfter}
 use Rattle.slot_return.specs.Shown.{shownIn}
 use Rattle.slot_return.proofs.ShownFile.{shown-is}
-use Rattle.slot_return.proofs.PassedPlan.{own-shape, passed-ordered}
+use Rattle.slot_return.proofs.PassedPlan.{passed-ordered}
 use Rattle.slot_return.proofs.slot_return.Statement.{statement}
 use Rattle.slot_return.proofs.slot_return.Tie as tie
 
@@ -31,7 +32,7 @@ plant-good c = sym (c .before .before .before .plant-form .ensures) ∙ c .befor
 
 -- and the plan
 plan-good : (c : tie.After-enum-told) → let d = c .before .before .before in planForm (shape d) (start d .args .plan .now) ≡ form.Good (shape d)
-plan-good c = own-shape _ _ _ (sym (c .before .before .plan-form .ensures) ∙ c .enum-told .given .1)
+plan-good c = let e = sym (c .before .before .plan-form .ensures) ∙ c .enum-told .given .1 in e ∙ ap form.Good (plan-shape _ _ e)
 
 -- and passes
 passed : (c : tie.After-enum-told2) → let d = c .before .before .before .before .before .before in let a = start d .args in

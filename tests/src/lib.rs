@@ -1,16 +1,34 @@
-//! A second, plain implementation of the plant, plan and slot files and of the
-//! plant machine, to make sample files and to test Doxkarin against.
+//! The compiled library, and a second, plain implementation of its files, rules
+//! and plant machine to test it against.
+//!
+//! - [`library`]: the three calls of the compiled library.
+//! - [`reference`]: the same three calls of the second implementation.
+//!
+//! The second implementation, written from the product's paper alone:
 //!
 //! - [`model`]: the numbers of the three files.
 //! - [`layout`]: from numbers to bytes.
 //! - [`forms`]: from bytes to numbers, or the refusal.
+//! - [`rules`]: the rules 31 to 41 over a plant and a plan.
 //! - [`machine`]: from a plant and slots to the plan, or the stop.
+//! - [`report`]: what `planreport` prints.
+//!
+//! What is tested:
+//!
 //! - [`small`]: the small plant.
 //! - [`samples`]: right and damaged files with their refusals.
+//! - [`following`]: the tables that follow from slots, whether or not they pass.
+//! - [`facts`]: P1 to P12, the changes to the small plant.
 
+pub mod facts;
+pub mod following;
 pub mod forms;
 pub mod layout;
+pub mod library;
 pub mod machine;
 pub mod model;
+pub mod reference;
+pub mod report;
+pub mod rules;
 pub mod samples;
 pub mod small;

@@ -3,7 +3,7 @@
 use std::fmt;
 
 /// A number of the refusal table: the row that turns a file or run down.
-pub type Refusal = u8;
+pub type Refusal = u32;
 
 /// The three kinds of file, each with its kind byte.
 #[derive(Clone, Copy, Debug, PartialEq, Eq)]

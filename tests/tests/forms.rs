@@ -72,7 +72,7 @@ fn a_cut_file_lacks_contents_or_a_body() {
         let parts = Parts::new(form.kind, form.first, &form.bodies);
         let file = parts.bytes();
         for length in 0..file.len() {
-            let misplaced = u8::from(length >= parts.contents_end());
+            let misplaced = u32::from(length >= parts.contents_end());
             let expected = Some(form.wrong_contents + misplaced);
             assert_eq!((form.refusal)(&file[..length]), expected, "{} {length}", form.kind);
         }
@@ -87,7 +87,7 @@ fn every_byte_of_the_contents_counts() {
             let mut file = parts.bytes();
             file[place] ^= 128;
             let is_place = place >= 2 && (place - 2) % 9 > 0;
-            let expected = Some(form.wrong_contents + u8::from(is_place));
+            let expected = Some(form.wrong_contents + u32::from(is_place));
             assert_eq!((form.refusal)(&file), expected, "{} {place}", form.kind);
         }
     }

@@ -1,0 +1,61 @@
+//! The three calls in the second implementation: files in, an answer or the
+//! refusal out. Everything is read into vectors of its own first.
+
+use crate::forms::{read_plan, read_plant, read_slots};
+use crate::machine;
+use crate::model::{Plan, Refusal, Sizes, Slot, Slots};
+use crate::rules;
+
+/// Level A: the profit of a plan that passes.
+pub fn check(plant: &[u8], plan: &[u8]) -> Result<i64, Refusal> {
+    passed(plant, plan).map(|(_, plan)| plan.profit)
+}
+
+/// Level B: writes the slot file of a plan that passes.
+pub fn slots(plant: &[u8], plan: &[u8], out: &mut [u8]) -> Result<usize, Refusal> {
+    let (sizes, plan) = passed(plant, plan)?;
+    write(&shown(sizes, &plan).encode(), out)
+}
+
+/// Level C: writes the plan file of a slot file's run.
+pub fn plan(plant: &[u8], slots: &[u8], out: &mut [u8]) -> Result<usize, Refusal> {
+    let plant = read_plant(plant)?;
+    let slots = read_slots(&plant, slots)?;
+    write(&machine::run(&plant, &slots)?.encode(), out)
+}
+
+/// The slots that a plan shows: each week's products in the order of O, with
+/// their minutes, and the sales.
+pub fn shown(sizes: Sizes, plan: &Plan) -> Slots {
+    let mut slots = Slots { counts: Vec::new(), slots: Vec::new(), sales: plan.sales.clone() };
+    for week in 0..sizes.weeks {
+        let mut row: Vec<(u8, Slot)> = (0..sizes.products)
+            .map(|product| (product, sizes.week_product(week, product)))
+            .filter(|&(_, index)| plan.ran[index] == 1)
+            .map(|(product, index)| {
+                let product = u8::try_from(product).expect("at most 16 products");
+                (plan.places[index], Slot { product, minutes: plan.minutes[index] })
+            })
+            .collect();
+        row.sort_by_key(|&(place, _)| place);
+        slots.counts.push(u8::try_from(row.len()).expect("at most 16 slots"));
+        slots.slots.extend(row.into_iter().map(|(_, slot)| slot));
+    }
+    slots
+}
+
+/// Reads both files and tries the rules.
+fn passed(plant: &[u8], plan: &[u8]) -> Result<(Sizes, Plan), Refusal> {
+    let plant = read_plant(plant)?;
+    let plan = read_plan(&plant, plan)?;
+    match rules::first_broken(&plant, &plan) {
+        None => Ok((plant.sizes, plan)),
+        Some(rule) => Err(rule),
+    }
+}
+
+/// Puts a file at the start of the output, if it has room.
+fn write(file: &[u8], out: &mut [u8]) -> Result<usize, Refusal> {
+    out.get_mut(..file.len()).ok_or(51u32)?.copy_from_slice(file);
+    Ok(file.len())
+}

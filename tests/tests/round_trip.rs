@@ -1,0 +1,99 @@
+//! Slots out of a plan and the plan back, over the library, with outputs of
+//! several lengths.
+
+use doxkarin_tests::model::Refusal;
+use doxkarin_tests::{facts, library, samples, small};
+
+/// What an output holds before a call: no byte is like its neighbours, and none
+/// is one that a cleared output would have.
+fn pattern(length: usize) -> Vec<u8> {
+    (1..=255).cycle().take(length).collect()
+}
+
+/// The value of a length or profit before a call.
+const UNTOUCHED: u64 = 0x0123_4567_89ab_cdef;
+
+type Call = fn(&[u8], &[u8], &mut [u8], &mut u64) -> Refusal;
+
+/// Asserts that a call gives this file in every output that has room for it, and
+/// 51 in others.
+fn assert_writes(call: Call, plant: &[u8], input: &[u8], file: &[u8]) {
+    for shortage in [1, 2, file.len() / 2, file.len()] {
+        let mut out = pattern(file.len() - shortage);
+        let mut length = UNTOUCHED;
+        assert_eq!(call(plant, input, &mut out, &mut length), 51);
+        assert_eq!(length, UNTOUCHED);
+        assert!(out == pattern(file.len() - shortage));
+    }
+    for surplus in [0, 1, 7, 4096] {
+        let mut out = pattern(file.len() + surplus);
+        let mut length = UNTOUCHED;
+        assert_eq!(call(plant, input, &mut out, &mut length), 0);
+        assert_eq!(length, file.len() as u64);
+        assert!(out[..file.len()] == *file);
+        assert!(out[file.len()..] == pattern(file.len() + surplus)[file.len()..]);
+    }
+}
+
+#[test]
+fn slots_come_back_as_the_plan() {
+    for fact in facts::all().into_iter().filter(|fact| fact.answer.is_ok()) {
+        let (plant, plan) = (fact.plant.encode(), fact.plan.encode());
+        let mut out = pattern(1000);
+        let length = library::slots(&plant, &plan, &mut out).expect("the plan passes");
+        let slots = out[..length].to_vec();
+        assert_writes(library::slots_into, &plant, &plan, &slots);
+        assert_writes(library::plan_into, &plant, &slots, &plan);
+        assert_eq!(library::check(&plant, &plan), fact.answer);
+    }
+}
+
+#[test]
+fn the_small_plant_goes_both_ways() {
+    let (plant, plan) = (small::plant().encode(), small::plan().encode());
+    let slots = small::slots().encode();
+    assert_writes(library::slots_into, &plant, &plan, &slots);
+    assert_writes(library::plan_into, &plant, &slots, &plan);
+}
+
+#[test]
+fn a_refusal_leaves_everything() {
+    for fact in facts::all() {
+        let Err(refusal) = fact.answer else { continue };
+        let (plant, plan) = (fact.plant.encode(), fact.plan.encode());
+
+        let mut profit = UNTOUCHED as i64;
+        assert_eq!(library::check_into(&plant, &plan, &mut profit), refusal);
+        assert_eq!(profit, UNTOUCHED as i64);
+        assert_leaves(library::slots_into, &plant, &plan, refusal);
+    }
+}
+
+/// Asserts that a call refuses, whatever the output's length, and leaves it.
+fn assert_leaves(call: Call, plant: &[u8], input: &[u8], refusal: Refusal) {
+    for length in [0, 1, 1000] {
+        let mut out = pattern(length);
+        let mut written = UNTOUCHED;
+        assert_eq!(call(plant, input, &mut out, &mut written), refusal);
+        assert_eq!(written, UNTOUCHED);
+        assert!(out == pattern(length));
+    }
+}
+
+#[test]
+fn damaged_files_are_refused_by_every_call() {
+    let (plant, plan) = (small::plant().encode(), small::plan().encode());
+    let slots = small::slots().encode();
+    for sample in samples::plants().into_iter().filter(|sample| sample.number > 0) {
+        assert_eq!(library::check(&sample.bytes, &plan), Err(sample.number), "{}", sample.name);
+        assert_leaves(library::slots_into, &sample.bytes, &plan, sample.number);
+        assert_leaves(library::plan_into, &sample.bytes, &slots, sample.number);
+    }
+    for sample in samples::plans().into_iter().filter(|sample| sample.number > 0) {
+        assert_eq!(library::check(&plant, &sample.bytes), Err(sample.number), "{}", sample.name);
+        assert_leaves(library::slots_into, &plant, &sample.bytes, sample.number);
+    }
+    for sample in samples::slots().into_iter().filter(|sample| sample.number > 0) {
+        assert_leaves(library::plan_into, &plant, &sample.bytes, sample.number);
+    }
+}

@@ -1,5 +1,6 @@
 // Prints what the rows of refusal say of each file that its arguments name: the name, a space, and 0 where the file is good or the
 // number of its refusal. The first letters of a name tell the kind of file. Plan and slot files are tried for the plant in plant.bin.
+use files::read_file;
 use libc::STDOUT_FILENO;
 use plan_file::plan_form;
 use plant_file::plant_form;
@@ -7,7 +8,6 @@ use sections::Form;
 use sections::Shape;
 use slot_file::slot_form;
 ghost use mathlib.Core.Path.{_≡_};
-ghost use Rattle.io.specs.Counts.{Counts};
 ghost use Rattle.sections.specs.Rows.{numberOf};
 ghost use Rattle.formcheck.specs.Answer.{answerOf};
 
@@ -15,19 +15,6 @@ enum Kind {
     Plant,
     Plan,
     Slots,
-}
-
-// Puts the start of a file at the start of buf, and answers how many bytes. One that cannot be read counts as empty.
-fn read_file(path: &[u8], buf: &mut [u8]) -> usize
-    ensures { λ r. ⌜ Counts r (now (buf .exit)) ⌝ }
-{
-    let fd = os::open_read(path);
-    if fd < 0 {
-        return 0;
-    }
-    let got = io::read_full(fd, buf);
-    libc::close(fd);
-    got
 }
 
 // The kind of file that a name tells: slots.., plan-.. or plan.., and plant.. for any other.

@@ -1,31 +1,10 @@
 // Prints whether a plan passes, with its profit or the number of its refusal, and a line for each slot of a plan that does.
 // The two arguments name the plant file and the plan file; with none they are plant.bin and plan.bin.
+use files::read_file;
+use files::read_named;
 use libc::STDERR_FILENO;
 use libc::STDOUT_FILENO;
 use report::report_text;
-ghost use Rattle.io.specs.Counts.{Counts};
-
-// Puts the start of a file at the start of buf, and answers how many bytes. One that cannot be read counts as empty.
-fn read_file(path: &[u8], buf: &mut [u8]) -> usize
-    ensures { λ r. ⌜ Counts r (now (buf .exit)) ⌝ }
-{
-    let fd = os::open_read(path);
-    if fd < 0 {
-        return 0;
-    }
-    let got = io::read_full(fd, buf);
-    libc::close(fd);
-    got
-}
-
-// The same of the file that argument i names.
-fn read_named(i: usize, buf: &mut [u8]) -> usize
-    ensures { λ r. ⌜ Counts r (now (buf .exit)) ⌝ }
-{
-    let mut name = io::buffer();
-    let n = os::arg(i, &mut name);
-    read_file(&name[..n], buf)
-}
 
 fn print_report(plant: &[u8], plan: &[u8]) {
     let mut text = [0; 16384];

@@ -97,7 +97,8 @@ unfolding entryBytes
 entry-bytes first lengths i =
     let o = digits 4 (start lengths i) in
     let x = digits 4 (getD lengths i 0) in
-    bytes-append (digits 1 (first + i)) (o ++ x) (bytes-digits 1 (first + i)) (bytes-append o x (bytes-digits 4 (start lengths i)) (bytes-digits 4 (getD lengths i 0)))
+    bytes-append (digits 1 (first + i)) (o ++ x) (bytes-digits 1 (first + i))
+    (bytes-append o x (bytes-digits 4 (start lengths i)) (bytes-digits 4 (getD lengths i 0)))
 
 contents-bytes : (kind first : ℕ) (lengths : List ℕ) → Bytes (contentsBytes kind first lengths)
 unfolding contentsBytes

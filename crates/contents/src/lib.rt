@@ -1,4 +1,4 @@
-// A file's table of contents: read on a slice and a position, tried, and written.
+// A file's table of contents: read by a cursor over the file, tried, and written.
 ghost use mathlib.Core.Path.{_≡_};
 ghost use mathlib.Core.List.{_++_};
 ghost use lib.Dec.{eqb};
@@ -21,8 +21,14 @@ pub struct Entry {
     pub length: u64,
 }
 
+// A place in the contents of a file.
+pub struct Cursor<'a> {
+    pub src: &'a [u8],
+    pub at: usize,
+}
+
 // The entry that stands at a position of the file.
-pub fn entry_at(s: &[u8], at: usize) -> Entry
+fn entry_at(s: &[u8], at: usize) -> Entry
     requires { ⌜ at + 9 ≤ length (now s) ⌝ }
     ensures { λ r. ⌜ (r ≡ entryAt (now (s .entry)) at) × (r .number < 256) × (r .offset < 2 ^ 32) × (r .length < 2 ^ 32) ⌝ }
 {
@@ -36,12 +42,38 @@ pub fn entry_at(s: &[u8], at: usize) -> Entry
     }
 }
 
-// The entry in place i of the contents.
+// A cursor at the first entry.
+fn begin<'a>(src: &'a [u8]) -> Cursor<'a>
+    ensures { λ c. ⌜ (c .src ≡ src .entry) × (c .at ≡ 2) ⌝ }
+{
+    Cursor { src, at: 2 }
+}
+
+// The cursor past `count` entries.
+fn skip<'a>(c: Cursor<'a>, count: usize) -> Cursor<'a>
+    requires { ⌜ c .at + 9 * count < 2 ^ 64 ⌝ }
+    ensures { λ d. ⌜ (d .src ≡ c .entry .src) × (d .at ≡ c .entry .at + 9 * count) ⌝ }
+{
+    Cursor {
+        src: c.src,
+        at: c.at + 9 * count,
+    }
+}
+
+// The entry at the cursor.
+fn next_entry<'a>(c: Cursor<'a>) -> Entry
+    requires { ⌜ c .at + 9 ≤ length (now (c .src)) ⌝ }
+    ensures { λ r. ⌜ (r ≡ entryAt (now (c .entry .src)) (c .entry .at)) × (r .number < 256) × (r .offset < 2 ^ 32) × (r .length < 2 ^ 32) ⌝ }
+{
+    entry_at(c.src, c.at)
+}
+
+// The entry in place i of the contents: what every reader of contents calls.
 pub fn entry_in(s: &[u8], i: usize) -> Entry
     requires { ⌜ (i < 256) × (11 + 9 * i ≤ length (now s)) ⌝ }
     ensures { λ r. ⌜ (r ≡ entry (now (s .entry)) i) × (r .number < 256) × (r .offset < 2 ^ 32) × (r .length < 2 ^ 32) ⌝ }
 {
-    entry_at(s, 2 + 9 * i)
+    next_entry(skip(begin(s), i))
 }
 
 // Whether the sections are numbered from `first` on.

@@ -6,3 +6,5 @@ pub mod PairTables
 pub mod Steps
 pub mod Runs
 pub mod Sanity
+pub mod Rows
+pub mod Parameters

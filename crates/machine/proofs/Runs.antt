@@ -1,11 +1,7 @@
 -- A run, one step at a time: what is left to run, before and after a step. Assumes nothing.
 use Prim.Native.Nat.{ℕ, suc, _+_, _-_, _≤_, _<_}
 use mathlib.Core.Path.{_≡_, refl, sym, ap, _∙_}
-use mathlib.Core.List.{List}
 use native.Mathlib.Omega.{arith}
-use native.Mathlib.Numerals.{add-one}
-use lib.ListN.{length, getD, drop}
-use lib.Seq.{drop-cons, drop-length}
 use Rattle.plant_file.specs.Plant.{Plant}
 use Rattle.slot_file.specs.Slots.{Slot, Slots}
 use Rattle.machine.specs.declared.Outcome.{Outcome}
@@ -13,7 +9,7 @@ use Rattle.machine.specs.declared.Outcome.the-variants.{Continues, Stops
 use Rattle.machine.specs.declared.State.{State}
 use Rattle.machine.specs.declared.Step.{Step}
 use Rattle.machine.specs.State.{continues, onward, andThen}
-use Rattle.machine.specs.Machine.{weekBegin, slotStep, weekEnd}
+use Rattle.machine.specs.Machine.{weekBegin, weekEnd}
 use Rattle.machine.specs.Run.{runSlots, runWeek, runWeeks}
 
 -- ---- two steps, one after the other
@@ -36,23 +32,23 @@ then-went r next t e = go (r .outcome) refl e
         let a : Stops n ≡ Continues = sym q ∙ ap (λ (x : Step). x .outcome) h in
         absurd (let z : _≡_ {A = ℕ} 0 1 = cc in omega arith)
 
--- ---- slots, from slot k of a list on
+pub then-ends : (r : Step) → andThen r continues ≡ r
+then-ends r = go (r .outcome)
+  where
+    go : (o : Outcome) → andThen (record { state = r .state; outcome = o }) continues ≡ record { state = r .state; outcome = o }
+    go Continues = refl
+    go (Stops n) = refl
+
+pub then-then : (r : Step) (g h : State → Step) → andThen (andThen r g) h ≡ andThen r (λ s. andThen (g s) h)
+then-then r g h = go (r .outcome)
+  where
+    go : (o : Outcome) → let q : Step = record { state = r .state; outcome = o } in andThen (andThen q g) h ≡ andThen q (λ s. andThen (g s) h)
+    go Continues = refl
+    go (Stops n) = refl
+
+-- ---- a slot, by its numbers
 pub slot-eta : {p m : ℕ} (x : Slot) → p ≡ x .product → m ≡ x .minutes → _≡_ {A = Slot} (record { product = p; minutes = m }) x
 slot-eta x e f = rw (e, f)
-
-module _ (P : Plant) (xs : List Slot) (k : ℕ) (s : State) where
-  pub slots-end : k ≡ length xs → runSlots P (drop k xs) s ≡ continues s
-  slots-end e = rw (e, drop-length xs)
-
-  module _ (x d : Slot) (r : Step) (l : k < length xs) (at-k : getD xs k d ≡ x) (e : r ≡ slotStep P x s) where
-    next : runSlots P (drop k xs) s ≡ andThen r (runSlots P (drop (k + 1) xs))
-    next = rw (drop-cons xs k d l, at-k, ← e, add-one)
-
-    pub slots-stop : (n : ℕ) → r .outcome ≡ Stops n → runSlots P (drop k xs) s ≡ r
-    slots-stop n q = next ∙ then-stops r (runSlots P (drop (k + 1) xs)) n q
-
-    pub slots-go : r .outcome ≡ Continues → runSlots P (drop k xs) s ≡ runSlots P (drop (k + 1) xs) (r .state)
-    slots-go q = next ∙ then-goes r (runSlots P (drop (k + 1) xs)) q
 
 -- ---- a week, from its slots on
 module _ (P : Plant) (S : Slots) (w : ℕ) (s : State) (r : Step) (e : r ≡ runSlots P (S .line .week w) (weekBegin s)) where

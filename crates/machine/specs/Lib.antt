@@ -3,3 +3,4 @@ pub mod Machine
 pub mod Run
 pub mod Bounds
 pub mod Files
+pub mod Row

@@ -3,18 +3,20 @@
 ghost use mathlib.Core.Path.{_≡_};
 ghost use mathlib.Core.Bool.{true};
 ghost use Prim.Native.Nat.{_+_, _*_, _^_, _≤_, _<_};
-ghost use Rattle.mathematics.specs.Below.{sumBelow};
+ghost use Rattle.mathematics.specs.Below.{sumBelow, listBelow};
 ghost use lib.IntN.{pos, _+ℤ_, _-ℤ_};
-ghost use lib.ListN.{replicate};
+ghost use lib.ListN.{replicate, take};
 ghost use lib.Signed.{mag};
 ghost use Rattle.sections.specs.declared.Form.the-variants.{Good};
 ghost use Rattle.plant_file.specs.Plant.{plantOf};
 ghost use Rattle.plant_file.specs.Form.{plantForm};
-ghost use Rattle.slot_file.specs.Slots.{slotsBefore, slotsOf};
+ghost use Rattle.slot_file.specs.Slots.{slotAt, slotsBefore, slotsOf};
 ghost use Rattle.slot_file.specs.Form.{slotForm};
 ghost use Rattle.machine.specs.Machine.{weekBegin, clockAfter, slotDone, slotStep};
 ghost use Rattle.machine.specs.Machine.{salesDue, backlogAfter, salesInStock, inventoryAfter, storageKept, booked, weekEnd};
-ghost use Rattle.machine.specs.State.{updateRow, updateRows};
+ghost use Rattle.machine.specs.State.{updateRow, updateRows, andThen};
+ghost use Rattle.machine.specs.declared.Outcome.the-variants.{Continues};
+ghost use Rattle.machine.specs.Row.{slotOf, slotsIn, Runnable};
 ghost use Rattle.machine.specs.Run.{opening, runSlots, runWeek, run};
 ghost use Rattle.machine.specs.Files.{salesOf, revenueOf, backlogChargeOf, inventoryChargeOf, Readable};
 ghost use Rattle.machine.specs.Bounds.{mountedBelow, Looked, Sane, Roomy};
@@ -84,6 +86,12 @@ pub enum Outcome {
 pub struct Step {
     pub state: State,
     pub outcome: Outcome,
+}
+
+// A production run: a product and its minutes.
+pub struct Slot {
+    pub product: usize,
+    pub minutes: Minutes,
 }
 
 // What a changeover takes.
@@ -166,6 +174,39 @@ fn revenue(plant: &[u8], slots: &[u8], f: Shape, week: usize) -> u64
         pair += 1;
     }
     sum
+}
+
+// Slots of the file at the start of an array: `count` of them, from slot `first` of all on.
+fn slot_row(slots: &[u8], f: Shape, first: usize, count: usize) -> [Slot; 16]
+    requires { ⌜ (slotForm f (now slots) ≡ Good f) × (first + count ≤ slotsBefore (now slots) (f .weeks)) × (count ≤ 16) ⌝ }
+    ensures { λ r. ⌜ slotsIn (take count r) ≡ listBelow count (λ k. slotAt (now (slots .entry)) (first + k)) ⌝ }
+{
+    let mut row = [Slot {
+        product: 0,
+        minutes: Minutes(0),
+    }; 16];
+    let mut k = 0;
+    while k < count {
+        let j = first + k;
+        let product = slot_product(slots, f, j);
+        let minutes = Minutes(slot_minutes(slots, f, j));
+        row[k] = Slot { product, minutes };
+        k += 1;
+    }
+    row
+}
+
+// The next slot; a run that has stopped stays as it is.
+fn slot_after(r: Step, plant: &[u8], f: Shape, slot: Slot) -> Step
+    requires { ⌜ (plantForm (now plant) ≡ Good f) × (slot .product < f .products) × (slot .minutes .0 < 2 ^ 16)
+        × (r .outcome ≡ Continues → Roomy f (r .state)) ⌝ }
+    ensures { λ q. ⌜ q ≡ andThen r (slotStep (plantOf f (now (plant .entry))) (slotOf slot)) ⌝ }
+{
+    let so_far = r.outcome;
+    if let Outcome::Stops(_) = so_far {
+        return r;
+    }
+    r.state.slot(plant, f, slot.product, slot.minutes)
 }
 
 impl State {
@@ -400,30 +441,39 @@ impl State {
         }
     }
 
+    // The slots of a row in their order; the first stop ends the run.
+    pub fn run_row(self, plant: &[u8], f: Shape, row: &[Slot]) -> Step
+        requires { ⌜ Runnable f (now plant) (slotsIn (now row)) self ⌝ }
+        ensures { λ r. ⌜ r ≡ runSlots (plantOf f (now (plant .entry))) (slotsIn (now (row .entry))) self ⌝ }
+    {
+        let mut r = Step {
+            state: self,
+            outcome: Outcome::Continues,
+        };
+        let mut i = 0;
+        while i < row.len() {
+            r = slot_after(r, plant, f, row[i]);
+            i += 1;
+        }
+        r
+    }
+
+    // The first `count` slots of an array, lent as a row.
+    fn run_lent(self, plant: &[u8], f: Shape, slots: [Slot; 16], count: usize) -> Step
+        requires { ⌜ Runnable f (now plant) (slotsIn (take count slots)) self × (count ≤ 16) ⌝ }
+        ensures { λ r. ⌜ r ≡ runSlots (plantOf f (now (plant .entry))) (slotsIn (take count slots)) self ⌝ }
+    {
+        self.run_row(plant, f, &slots[..count])
+    }
+
     // The week's slots in their order, the first of them slot `first` of all; the first stop ends the run.
     pub fn run_slots(self, plant: &[u8], slots: &[u8], f: Shape, week: usize, first: usize) -> Step
         requires { ⌜ Readable f (now plant) (now slots) week × (first ≡ slotsBefore (now slots) week) × Sane f week 0 self ⌝ }
         ensures { λ r. ⌜ r ≡ runSlots (plantOf f (now (plant .entry))) (slotsOf f (now (slots .entry)) .line .week week) self ⌝ }
     {
-        let total = slot_count(slots, f, week);
-        let mut s = self;
-        let mut k = 0;
-        while k < total {
-            let j = first + k;
-            let product = slot_product(slots, f, j);
-            let time = Minutes(slot_minutes(slots, f, j));
-            let r = s.slot(plant, f, product, time);
-            let outcome = r.outcome;
-            if let Outcome::Stops(_) = outcome {
-                return r;
-            }
-            s = r.state;
-            k += 1;
-        }
-        Step {
-            state: s,
-            outcome: Outcome::Continues,
-        }
+        let count = slot_count(slots, f, week);
+        let row = slot_row(slots, f, first, count);
+        self.run_lent(plant, f, row, count)
     }
 
     // A week: it begins, its slots run, it ends.

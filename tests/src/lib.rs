@@ -4,7 +4,7 @@
 //! - [`library`]: the three calls of the compiled library.
 //! - [`reference`]: the same three calls of the second implementation.
 //!
-//! The second implementation, written from the product's paper alone:
+//! The second implementation, after the product's paper:
 //!
 //! - [`model`]: the numbers of the three files.
 //! - [`layout`]: from numbers to bytes.
@@ -19,7 +19,11 @@
 //! - [`samples`]: right and damaged files with their refusals.
 //! - [`following`]: the tables that follow from slots, whether or not they pass.
 //! - [`facts`]: P1 to P12, the changes to the small plant.
+//! - [`scenario`]: random plants, with slots that mostly run; [`random`] numbers.
+//! - [`mutants`]: changes to right files, and damage.
+//! - [`differential`]: the two implementations compared, call by call.
 
+pub mod differential;
 pub mod facts;
 pub mod following;
 pub mod forms;
@@ -27,8 +31,11 @@ pub mod layout;
 pub mod library;
 pub mod machine;
 pub mod model;
+pub mod mutants;
+pub mod random;
 pub mod reference;
 pub mod report;
 pub mod rules;
 pub mod samples;
+pub mod scenario;
 pub mod small;

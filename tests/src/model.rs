@@ -167,3 +167,17 @@ pub struct Slots {
     /// Grams sold, by customer, product and week.
     pub sales: Vec<u32>,
 }
+
+impl Slots {
+    /// Lays out slots week by week.
+    pub fn from_rows(rows: &[Vec<Slot>], sales: Vec<u32>) -> Slots {
+        let counts = rows.iter().map(|row| u8::try_from(row.len()).expect("a count of one byte"));
+        Slots { counts: counts.collect(), slots: rows.concat(), sales }
+    }
+
+    /// The slots of each week.
+    pub fn rows(&self) -> Vec<Vec<Slot>> {
+        let mut slots = self.slots.iter().copied();
+        self.counts.iter().map(|&count| slots.by_ref().take(count.into()).collect()).collect()
+    }
+}

@@ -13,15 +13,25 @@ pub fn check(plant: &[u8], plan: &[u8]) -> Result<i64, Refusal> {
 
 /// Level B: writes the slot file of a plan that passes.
 pub fn slots(plant: &[u8], plan: &[u8], out: &mut [u8]) -> Result<usize, Refusal> {
-    let (sizes, plan) = passed(plant, plan)?;
-    write(&shown(sizes, &plan).encode(), out)
+    write(&slot_file(plant, plan), out)
 }
 
 /// Level C: writes the plan file of a slot file's run.
 pub fn plan(plant: &[u8], slots: &[u8], out: &mut [u8]) -> Result<usize, Refusal> {
+    write(&plan_file(plant, slots), out)
+}
+
+/// The slot file of a plan that passes.
+pub fn slot_file(plant: &[u8], plan: &[u8]) -> Result<Vec<u8>, Refusal> {
+    let (sizes, plan) = passed(plant, plan)?;
+    Ok(shown(sizes, &plan).encode())
+}
+
+/// The plan file of a slot file's run.
+pub fn plan_file(plant: &[u8], slots: &[u8]) -> Result<Vec<u8>, Refusal> {
     let plant = read_plant(plant)?;
     let slots = read_slots(&plant, slots)?;
-    write(&machine::run(&plant, &slots)?.encode(), out)
+    Ok(machine::run(&plant, &slots)?.encode())
 }
 
 /// The slots that a plan shows: each week's products in the order of O, with
@@ -54,8 +64,9 @@ fn passed(plant: &[u8], plan: &[u8]) -> Result<(Sizes, Plan), Refusal> {
     }
 }
 
-/// Puts a file at the start of the output, if it has room.
-fn write(file: &[u8], out: &mut [u8]) -> Result<usize, Refusal> {
+/// Puts the file, if there is one, at the start of an output with room for it.
+pub fn write(file: &Result<Vec<u8>, Refusal>, out: &mut [u8]) -> Result<usize, Refusal> {
+    let file = file.as_ref().map_err(|&refusal| refusal)?;
     out.get_mut(..file.len()).ok_or(51u32)?.copy_from_slice(file);
     Ok(file.len())
 }

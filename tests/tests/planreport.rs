@@ -6,8 +6,10 @@ use std::path::{Path, PathBuf};
 use std::process::{Command, Output};
 
 use doxkarin_tests::layout::Parts;
-use doxkarin_tests::model::Kind;
-use doxkarin_tests::{facts, report, small};
+use doxkarin_tests::model::{Kind, Slot, Slots, Storage};
+use doxkarin_tests::random::Random;
+use doxkarin_tests::scenario::{greatest_sizes, sizes, Scenario};
+use doxkarin_tests::{facts, following, machine, report, samples, small};
 
 fn repository() -> PathBuf {
     Path::new(env!("CARGO_MANIFEST_DIR")).join("..")
@@ -162,4 +164,46 @@ fn files_are_read_as_far_as_65_536_bytes() {
     assert_prints_of("plan-beyond", &plant.encode(), &long, "refused 13\n");
     let cut = stretched(Kind::Plan, 21, plan.bodies(), 65_537);
     assert_prints_of("plan-cut", &plant.encode(), &cut, "refused 12\n");
+}
+
+#[test]
+fn random_plans_are_printed() {
+    let mut random = Random::new(4);
+    let (mut passed, mut refused) = (0, 0);
+    for turn in 0..200 {
+        let sizes = if turn % 20 == 0 { greatest_sizes() } else { sizes(&mut random) };
+        let Scenario { plant, slots } = Scenario::new(&mut random, sizes);
+        let plan = following::plan(&plant, &slots);
+        let text = report::text(&plant.encode(), &plan.encode());
+        if text.starts_with("passed") {
+            passed += 1;
+        } else {
+            refused += 1;
+        }
+        assert_prints_of("random", &plant.encode(), &plan.encode(), &text);
+    }
+    assert!(passed > 0 && refused > 0, "{passed} passed, {refused} refused");
+}
+
+#[test]
+fn the_longest_report_is_printed() {
+    let sizes = greatest_sizes();
+    let mut plant = samples::least_plant(sizes);
+    plant.week_minutes = 10_080;
+    plant.storage.fill(Storage { least: 0, greatest: 4_000_000_000 });
+    plant.changeover_minutes.fill(100);
+    for product in 0..sizes.products {
+        plant.changeover_minutes[sizes.from_to(product, product)] = 0;
+    }
+    // The early starts are far into the week.
+    let minutes = |product| if product == 0 { 8000 } else { 30 };
+    let row: Vec<Slot> =
+        (0..16).map(|product| Slot { product, minutes: minutes(product) }).collect();
+    let sales = vec![0; sizes.customers * sizes.products * sizes.weeks];
+    let slots = Slots::from_rows(&vec![row; sizes.weeks], sales);
+    let plan = machine::run(&plant, &slots).expect("the run never stops");
+
+    let text = report::text(&plant.encode(), &plan.encode());
+    assert_eq!(text.lines().count(), 1 + 26 * 16);
+    assert_prints_of("longest", &plant.encode(), &plan.encode(), &text);
 }

@@ -2,7 +2,9 @@
 //! several lengths.
 
 use doxkarin_tests::model::Refusal;
-use doxkarin_tests::{facts, library, samples, small};
+use doxkarin_tests::random::Random;
+use doxkarin_tests::scenario::{greatest_sizes, sizes, Scenario};
+use doxkarin_tests::{facts, forms, library, machine, samples, small};
 
 /// What an output holds before a call: no byte is like its neighbours, and none
 /// is one that a cleared output would have.
@@ -54,6 +56,31 @@ fn the_small_plant_goes_both_ways() {
     let slots = small::slots().encode();
     assert_writes(library::slots_into, &plant, &plan, &slots);
     assert_writes(library::plan_into, &plant, &slots, &plan);
+}
+
+#[test]
+fn random_slots_go_both_ways() {
+    let mut random = Random::new(3);
+    let mut passed = 0;
+    while passed < 400 {
+        let sizes = if passed % 20 == 0 { greatest_sizes() } else { sizes(&mut random) };
+        let Scenario { plant, slots } = Scenario::new(&mut random, sizes);
+        if machine::run(&plant, &slots).is_err() {
+            continue;
+        }
+        passed += 1;
+        let (plant_file, slot_file) = (plant.encode(), slots.encode());
+
+        let mut plan_file = pattern(100_000);
+        let length =
+            library::plan(&plant_file, &slot_file, &mut plan_file).expect("the run never stops");
+        plan_file.truncate(length);
+        assert_writes(library::plan_into, &plant_file, &slot_file, &plan_file);
+        assert_writes(library::slots_into, &plant_file, &plan_file, &slot_file);
+
+        let plan = forms::read_plan(&plant, &plan_file).expect("a plan was written");
+        assert_eq!(library::check(&plant_file, &plan_file), Ok(plan.profit));
+    }
 }
 
 #[test]

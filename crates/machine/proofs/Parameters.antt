@@ -1,5 +1,5 @@
--- What the two walks over a row pass on: the machine values of a state, a shape, a slot and what a step gives, their laws, and what the state,
--- the plant file and the shape own as parameters. Assumes nothing.
+-- What the walks of `run_row` and `run_lent` pass on: the machine values of a state, a shape, a slot and what a step gives, their laws, and
+-- what the state, the plant file and the shape own as parameters. Assumes nothing.
 use Prim.Native.Nat.{ℕ}
 use mathlib.Core.List.{List, [], _∷_}
 use lib.ListN.{length}

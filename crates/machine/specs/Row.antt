@@ -18,7 +18,7 @@ slotOf t = record { product = t .product; minutes = t .minutes .0 }
 abbrev pub slotsIn : List Slot → List FileSlot
 slotsIn row = map slotOf row
 
--- a good plant file, a state at the start of a week, and at most 16 slots, of known products and of minutes of two bytes
+-- a good plant file, a state within the bounds of any week's start, and at most 16 slots, of known products and with minutes of two bytes
 pub record Runnable (f : Shape) (plant : List ℕ) (xs : List FileSlot) (s : State) : Type 0 where
   pub plant-good : plantForm plant ≡ Good f
   pub sane : Sane f 26 0 s

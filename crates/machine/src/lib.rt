@@ -147,7 +147,7 @@ pub fn pay(profit: Profit, amount: u64) -> Profit
 }
 
 // A product's sales in a week, over the customers.
-fn sold_of(slots: &[u8], f: Shape, product: usize, week: usize) -> u64
+pub fn sold_of(slots: &[u8], f: Shape, product: usize, week: usize) -> u64
     requires { ⌜ (slotForm f (now slots) ≡ Good f) × (product < f .products) × (week < f .weeks) ⌝ }
     ensures { λ r. ⌜ r ≡ sumBelow (f .customers) (λ c. salesOf f (now (slots .entry)) week c product) ⌝ }
 {

@@ -80,11 +80,32 @@ pub fn read(s: &[u8], at: usize, k: usize) -> u64
     read8(s, at)
 }
 
-// Stores the k low bytes of v from a place on.
+// Stores the 4 low bytes of v from a place on.
+fn write4(out: &mut [u8], at: usize, v: u64)
+    requires { ⌜ at + 4 ≤ length (now out) ⌝ }
+    ensures { λ _. ⌜ now (out .exit) ≡ store (now (out .entry)) at (digits 4 v) ⌝ }
+{
+    let second = v / 256;
+    let third = second / 256;
+    let fourth = third / 256;
+    out[at] = (v % 256) as u8;
+    out[at + 1] = (second % 256) as u8;
+    out[at + 2] = (third % 256) as u8;
+    out[at + 3] = (fourth % 256) as u8;
+}
+
+// Stores the k low bytes of v from a place on. The files' commonest widths are stored without a loop.
 pub fn write(out: &mut [u8], at: usize, k: usize, v: u64)
     requires { ⌜ at + k ≤ length (now out) ⌝ }
     ensures { λ _. ⌜ now (out .exit) ≡ store (now (out .entry)) at (digits k v) ⌝ }
 {
+    if k == 1 {
+        out[at] = (v % 256) as u8;
+        return;
+    }
+    if k == 4 {
+        return write4(out, at, v);
+    }
     let mut left = v;
     let mut p = at;
     let mut i = k;

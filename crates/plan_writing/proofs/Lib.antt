@@ -1,4 +1,5 @@
 pub mod WeekSums
-pub mod WeekSlots
+pub mod WeekTables
+pub mod Rows
 pub mod RunWeeks
-pub mod BodyNumbers
+pub mod Bodies

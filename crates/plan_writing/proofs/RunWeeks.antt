@@ -23,6 +23,7 @@ use Rattle.model.proofs.States.{opening-inventory, opening-backlog}
 use Rattle.model.proofs.RunStates.{WeekFormed, mounted-last, ran-backlog, ran-inventory, after-backlog, after-inventory}
 use Rattle.model.proofs.Stops.{WeekClear, run-goes}
 use Rattle.plan_writing.specs.Run.{Ran, passage}
+use Rattle.plan_writing.specs.Bodies.{carriedInto}
 
 pub times-same : {a b x y : ℕ} → a ≡ b → x ≡ y → a * x ≡ b * y
 times-same e d = λ u. e u * d u
@@ -92,7 +93,7 @@ module _ (f : Shape) (plant slots : List ℕ) (h : Ran f plant slots) where
   profit-is = sym (ap (λ (s : State). s .profit .0) (goes-on .1))
 
   module _ (i : ℕ) (k : i < f .products) where
-    pub inventory-first : P .openingInventory i ≡ inventoryOf (after P S 0) i
+    inventory-first : P .openingInventory i ≡ inventoryOf (after P S 0) i
     unfolding plantOf
     inventory-first = sym (opening-inventory P ranges i k)
 
@@ -111,11 +112,17 @@ module _ (f : Shape) (plant slots : List ℕ) (h : Ran f plant slots) where
     inventory-covers w l =
         omega (arith, clear w l .ends .stocked i k, ran-inventory P S ranges w (formed f plant slots (h .slots-good) w l) i)
 
-    pub inventory-most : (w : ℕ) → w < f .weeks → inventoryOf (after P S (w + 1)) i ≤ 4000000000
+    -- the inventory before a week, by what is carried into it
+    pub inventory-held : (w carried : ℕ) → ((v : ℕ) → w ≡ suc v → carried ≡ runTables P S .inventory v i)
+        → carriedInto w (P .openingInventory i) carried ≡ inventoryOf (after P S w) i
+    unfolding runTables
+    inventory-held zero carried h = inventory-first
+    inventory-held (suc w) carried h = h w refl
+
+    pub inventory-limit : (w : ℕ) → w < f .weeks → inventoryOf (after P S w) i ≤ 4000000000
     unfolding plantOf
-    inventory-most w l =
-        let n : suc w ≡ w + 1 = omega arith in
-        omega (arith, clear w l .ends .most i k, ranges .storage-most i k, ap (λ (v : ℕ). inventoryOf (after P S v) i) n)
+    inventory-limit zero l = omega (arith, inventory-first, ranges .opening-inventory-most i k)
+    inventory-limit (suc w) l = omega (arith, clear w (omega arith) .ends .most i k, ranges .storage-most i k)
 
     module _ (c : ℕ) (d : c < f .customers) where
       pub backlog-first : P .openingBacklog c i ≡ backlogOf (f .products) (after P S 0) c i

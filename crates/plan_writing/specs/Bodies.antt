@@ -1,7 +1,8 @@
--- The numbers of a plan's bodies, by place and in file order. Assumes nothing.
-use Prim.Native.Nat.{ℕ, _*_, _/_, _%_}
+-- The rows of a plan's bodies, by place and in file order. Assumes nothing.
+use Prim.Native.Nat.{ℕ, zero, suc, _*_, _/_, _%_, _≤_, _<_}
+use mathlib.Core.Path.{_≡_}
 use mathlib.Core.List.{List, [], _∷_}
-use lib.ListN.{getD}
+use lib.ListN.{length, getD}
 use Rattle.numbers.specs.Signed.{unsignedOf}
 use Rattle.sections.specs.declared.Shape.{Shape}
 use Rattle.plan_file.specs.Plan.{Plan}
@@ -10,41 +11,63 @@ use Rattle.plan_file.specs.Plan.{Plan}
 unfoldable pub widthIn : ℕ → ℕ
 widthIn place = getD (1 ∷ 1 ∷ 1 ∷ 1 ∷ 1 ∷ 1 ∷ 2 ∷ 4 ∷ 4 ∷ 4 ∷ 4 ∷ 8 ∷ []) place 0
 
--- how many numbers each body has, where these are the counts of tables by week and product, by week, from and to, and by customer,
--- product and week
-abbrev pub countsOf : (grids cubes trades : ℕ) → List ℕ
-countsOf g c t = g ∷ g ∷ g ∷ c ∷ c ∷ g ∷ g ∷ g ∷ t ∷ g ∷ t ∷ 1 ∷ []
+-- how many rows each body has: weeks w, weeks and products wn, customers and products cn
+abbrev pub rowCounts : (w wn cn : ℕ) → List ℕ
+rowCounts w wn cn = w ∷ w ∷ w ∷ wn ∷ wn ∷ w ∷ w ∷ w ∷ cn ∷ w ∷ cn ∷ 1 ∷ []
 
-unfoldable pub countIn : Shape → ℕ → ℕ
-countIn f place =
-    getD (countsOf (f .weeks * f .products) (f .weeks * f .products * f .products) (f .customers * f .products * f .weeks)) place 0
+unfoldable pub rowsIn : Shape → ℕ → ℕ
+rowsIn f place = getD (rowCounts (f .weeks) (f .weeks * f .products) (f .customers * f .products)) place 0
 
--- number q of a table in file order
-module _ (f : Shape) (q : ℕ) where
-  abbrev pub ofGrid : (ℕ → ℕ → ℕ) → ℕ
-  ofGrid t = t (q / f .products) (q % f .products)
+-- and how many numbers each row: products n, weeks w
+abbrev pub columnCounts : (n w : ℕ) → List ℕ
+columnCounts n w = n ∷ n ∷ n ∷ n ∷ n ∷ n ∷ n ∷ n ∷ w ∷ n ∷ w ∷ 1 ∷ []
 
-  abbrev pub ofCube : (ℕ → ℕ → ℕ → ℕ) → ℕ
-  ofCube t = t (q / f .products / f .products) (q / f .products % f .products) (q % f .products)
+unfoldable pub columnsIn : Shape → ℕ → ℕ
+columnsIn f place = getD (columnCounts (f .products) (f .weeks)) place 0
 
-  abbrev pub ofTrade : (ℕ → ℕ → ℕ → ℕ) → ℕ
-  ofTrade t = t (q / f .weeks / f .products) (q / f .weeks % f .products) (q % f .weeks)
-
--- number q of the body in a place
-unfoldable pub numberIn : Shape → Plan → ℕ → ℕ → ℕ
-numberIn f x place q =
+-- number j of row r of the body in a place
+unfoldable pub rowIn : Shape → Plan → (place r j : ℕ) → ℕ
+rowIn f x place r j =
     getD
-    (ofGrid f q (x .line .assigned)
-    ∷ ofGrid f q (x .line .first)
-    ∷ ofGrid f q (x .line .last)
-    ∷ ofCube f q (x .line .changeover)
-    ∷ ofCube f q (x .line .weekChangeover)
-    ∷ ofGrid f q (x .line .position)
-    ∷ ofGrid f q (x .line .minutes)
-    ∷ ofGrid f q (x .production)
-    ∷ ofTrade f q (x .sales)
-    ∷ ofGrid f q (x .inventory)
-    ∷ ofTrade f q (x .backlog)
+    (x .line .assigned r j
+    ∷ x .line .first r j
+    ∷ x .line .last r j
+    ∷ x .line .changeover (r / f .products) (r % f .products) j
+    ∷ x .line .weekChangeover (r / f .products) (r % f .products) j
+    ∷ x .line .position r j
+    ∷ x .line .minutes r j
+    ∷ x .production r j
+    ∷ x .sales (r / f .products) (r % f .products) j
+    ∷ x .inventory r j
+    ∷ x .backlog (r / f .products) (r % f .products) j
     ∷ unsignedOf (x .profit)
     ∷ [])
     place 0
+
+-- a list that begins with n given numbers
+abbrev pub Shows : (n : ℕ) → (ℕ → ℕ) → List ℕ → Type 0
+Shows n g row = (j : ℕ) → j < n → getD row j 0 ≡ g j
+
+-- a row as the code has it, in an array of 26
+abbrev pub Row : (n : ℕ) → (ℕ → ℕ) → List ℕ → Type 0
+Row n g row = Shows n g row × (length row ≡ 26)
+
+-- a list without a large number
+abbrev pub Small : List ℕ → Type 0
+Small row = (j : ℕ) → getD row j 0 ≤ 16777216
+
+-- ---- a row that needs the row before it
+-- before row r stands row r - 1
+abbrev pub Preceded : Shape → Plan → (place r : ℕ) → List ℕ → Type 0
+Preceded f x place r before = (q : ℕ) → r ≡ suc q → Shows (columnsIn f place) (rowIn f x place q) before
+
+-- the opening number before week 0, else what is carried
+abbrev pub carriedInto : (week opening carried : ℕ) → ℕ
+carriedInto zero opening carried = opening
+carriedInto (suc w) opening carried = carried
+
+-- V of a week comes from P of the week and from V of the week before
+pub record Carried (f : Shape) (x : Plan) (week : ℕ) (made before : List ℕ) : Type 0 where
+  pub of-week : Shows (f .products) (x .production week) made
+  pub most : (i : ℕ) → i < f .products → getD made i 0 ≤ 2000000000000
+  pub carried : (w : ℕ) → week ≡ suc w → Shows (f .products) (x .inventory w) before

@@ -1,32 +1,34 @@
-// Plan writing: the plan file of a run without a stop, number by number in file order.
+// Plan writing: the plan file of a run without a stop, row by row in file order.
 ghost use mathlib.Core.Path.{_≡_};
 ghost use mathlib.Core.List.{[]};
-ghost use mathlib.Core.Logic.{_≢_};
-ghost use Prim.Native.Nat.{_≤_, _<_};
+ghost use Prim.Native.Nat.{_+_, _*_, _≤_, _<_};
 ghost use lib.ListN.{length, getD};
-ghost use Rattle.mathematics.specs.Below.{sumBelow, is};
+ghost use Rattle.mathematics.specs.Below.{is};
 ghost use Rattle.numbers.specs.Number.{store};
 ghost use Rattle.numbers.specs.Signed.{unsignedOf};
 ghost use Rattle.contents.specs.File.{start};
 ghost use Rattle.sections.specs.declared.Form.the-variants.{Good};
 ghost use Rattle.plant_file.specs.Plant.{plantOf};
+ghost use Rattle.plant_file.specs.Form.{plantForm};
 ghost use Rattle.plan_file.specs.Form.{planLengths};
 ghost use Rattle.plan_file.specs.File.{planBodies, planFile};
-ghost use Rattle.slot_file.specs.Slots.{slotsBefore, slotsOf};
+ghost use Rattle.slot_file.specs.Slots.{slotCount, slotsBefore, slotsOf};
 ghost use Rattle.slot_file.specs.Form.{slotForm};
-ghost use Rattle.model.specs.RunTables.{orderOfSlots, whoFirst, whoLast, neighbours, runTables};
+ghost use Rattle.model.specs.RunTables.{runTables};
 ghost use Rattle.calls.specs.declared.Written.the-variants.{Length};
 ghost use Rattle.calls.specs.Answer.{bytes, planAnswer, writtenIn, outputAfter};
-ghost use Rattle.plan_writing.specs.Run.{Ran, Tallied, Located, passage};
-ghost use Rattle.plan_writing.specs.Bodies.{widthIn, countIn, numberIn};
+ghost use Rattle.plan_writing.specs.Run.{Ran};
+ghost use Rattle.plan_writing.specs.Bodies.{widthIn, rowsIn, columnsIn, rowIn, Row, Small, carriedInto, Carried, Preceded};
+ghost use Rattle.plan_writing.specs.Weights.{weightIn, LineRow};
 use calls::Written;
 use calls::refuse;
 use machine::Outcome;
 use machine::Profit;
 use machine::run;
+use machine::sold_of;
 use numbers::count;
 use numbers::unsigned;
-use numbers::write;
+use numbers::write_all;
 use plan_file::plan_length;
 use plan_file::section_start;
 use plant_file::demand;
@@ -37,26 +39,12 @@ use plant_file::rate;
 use sections::Form;
 use sections::Shape;
 use sections::area;
-use sections::volume;
 use slot_file::sales;
 use slot_file::slot_count;
 use slot_file::slot_form;
 use slot_file::slot_minutes;
 use slot_file::slot_product;
-
-// A product's week: how often it runs, its place and its minutes.
-pub struct ProductWeek {
-    pub ran: u64,
-    pub place: u64,
-    pub minutes: u64,
-}
-
-// Where a number stands: in which table, row and column.
-pub struct Cell {
-    pub table: usize,
-    pub row: usize,
-    pub column: usize,
-}
+use slot_file::week_start;
 
 // 1 where two numbers are equal, else 0.
 fn same(a: usize, b: usize) -> u64
@@ -65,217 +53,193 @@ fn same(a: usize, b: usize) -> u64
     if a == b { 1 } else { 0 }
 }
 
-// The slots before a week.
-fn week_start(slots: &[u8], f: Shape, week: usize) -> usize
-    requires { ⌜ (slotForm f (now slots) ≡ Good f) × (week ≤ f .weeks) ⌝ }
-    ensures { λ r. ⌜ (r ≡ slotsBefore (now (slots .entry)) week) × (r ≤ 65025) ⌝ }
+// What slot k of a week, slot j of all, adds to the number of its product in the table in a place.
+fn weight_of(
+    slots: &[u8],
+    f: Shape,
+    week: usize,
+    place: usize,
+    from: usize,
+    k: usize,
+    j: usize,
+    total: usize,
+) -> u64
+    requires { ⌜ (slotForm f (now slots) ≡ Good f) × (week < f .weeks) × (place < 7) × (j ≡ slotsBefore (now slots) week + k) × (k < total)
+        × (total ≡ slotCount (now slots) week) × (total ≤ 255) ⌝ }
+    ensures { λ r. ⌜ (r ≡ weightIn (now (slots .entry)) week place from k) × (r ≤ 65535) ⌝ }
 {
-    let mut sum = 0;
-    let mut i = 0;
-    while i < week {
-        sum += slot_count(slots, f, i);
-        i += 1;
+    if place == 0 {
+        return 1;
     }
-    sum
+    if place == 1 {
+        return same(k, 0);
+    }
+    if place == 2 {
+        return same(k + 1, total);
+    }
+    if place == 3 {
+        if k == 0 {
+            return 0;
+        }
+        return same(slot_product(slots, f, j - 1), from);
+    }
+    if place == 4 {
+        if week == 0 {
+            return 0;
+        }
+        if k != 0 {
+            return 0;
+        }
+        return same(slot_product(slots, f, j - 1), from);
+    }
+    if place == 5 {
+        return k as u64 + 1;
+    }
+    slot_minutes(slots, f, j)
 }
 
-// E, O and T: one pass over the week's slots.
-fn tally(slots: &[u8], f: Shape, week: usize, product: usize) -> ProductWeek
-    requires { ⌜ (slotForm f (now slots) ≡ Good f) × (week < f .weeks) ⌝ }
-    ensures { λ r. ⌜ Tallied (slotsOf f (now (slots .entry)) .line .week week) product r ⌝ }
+// A week's row of E, F, L, O or T, or the row of Z or ZF from a product: one pass over the week's slots.
+fn line_row(slots: &[u8], f: Shape, week: usize, place: usize, from: usize) -> [u64; 26]
+    requires { ⌜ (slotForm f (now slots) ≡ Good f) × (week < f .weeks) × (place < 7) × (f .products ≤ 16) ⌝ }
+    ensures { λ r. ⌜ LineRow (now (slots .entry)) week place from (f .products) r ⌝ }
 {
     let first = week_start(slots, f, week);
     let total = slot_count(slots, f, week);
-    let mut ran = 0;
-    let mut place = 0;
-    let mut minutes = 0;
+    let mut row = [0; 26];
     let mut k = 0;
     while k < total {
         let j = first + k;
-        let hit = same(slot_product(slots, f, j), product);
-        ran += hit;
-        place += hit * (k as u64 + 1);
-        minutes += hit * slot_minutes(slots, f, j);
+        let product = slot_product(slots, f, j);
+        let weight = weight_of(slots, f, week, place, from, k, j, total);
+        row[product] = row[product] + weight;
         k += 1;
     }
-    ProductWeek {
-        ran,
-        place,
-        minutes,
+    row
+}
+
+// A week's row of P, of its row of T.
+fn production_row(plant: &[u8], f: Shape, minutes: [u64; 26]) -> [u64; 26]
+    requires { ⌜ (plantForm (now plant) ≡ Good f) × (f .products ≤ 16) × Small minutes ⌝ }
+    ensures { λ r. ⌜ Row (f .products) (λ i. plantOf f (now (plant .entry)) .line .rate i * getD minutes i 0) r ⌝ }
+{
+    let products = count(f.products);
+    let mut row = [0; 26];
+    let mut i = 0;
+    while i < products {
+        row[i] = rate(plant, f, i) * minutes[i];
+        i += 1;
     }
+    row
 }
 
-// F: whether a product is the first of a week.
-fn first_of(slots: &[u8], f: Shape, week: usize, product: usize) -> u64
-    requires { ⌜ (slotForm f (now slots) ≡ Good f) × (week < f .weeks) ⌝ }
-    ensures { λ r. ⌜ (r ≡ whoFirst (orderOfSlots (slotsOf f (now (slots .entry)) .line .week week)) product) × (r ≤ 1) ⌝ }
-{
-    let j = week_start(slots, f, week);
-    same(slot_product(slots, f, j), product)
-}
-
-// L: whether a product is the last of a week.
-fn last_of(slots: &[u8], f: Shape, week: usize, product: usize) -> u64
-    requires { ⌜ (slotForm f (now slots) ≡ Good f) × (week < f .weeks) ⌝ }
-    ensures { λ r. ⌜ (r ≡ whoLast (orderOfSlots (slotsOf f (now (slots .entry)) .line .week week)) product) × (r ≤ 1) ⌝ }
-{
-    let j = week_start(slots, f, week) + slot_count(slots, f, week) - 1;
-    same(slot_product(slots, f, j), product)
-}
-
-// Z: how often one product follows another within a week.
-fn neighbours_of(slots: &[u8], f: Shape, week: usize, from: usize, to: usize) -> u64
-    requires { ⌜ (slotForm f (now slots) ≡ Good f) × (week < f .weeks) ⌝ }
-    ensures { λ r. ⌜ r ≡ neighbours (orderOfSlots (slotsOf f (now (slots .entry)) .line .week week)) from to ⌝ }
-{
-    let first = week_start(slots, f, week);
-    let pairs = slot_count(slots, f, week) - 1;
-    let mut sum = 0;
-    let mut k = 0;
-    while k < pairs {
-        let j = first + k;
-        let before = same(slot_product(slots, f, j), from);
-        let after = same(slot_product(slots, f, j + 1), to);
-        sum += before * after;
-        k += 1;
-    }
-    sum
-}
-
-// ZF: whether one product is the last of the week before, and another the first of this one.
-fn week_changeover_of(slots: &[u8], f: Shape, week: usize, from: usize, to: usize) -> u64
-    requires { ⌜ (slotForm f (now slots) ≡ Good f) × (week < f .weeks) ⌝ }
-    ensures { λ r. ⌜ r ≡ passage (slotsOf f (now (slots .entry)) .line) week from to ⌝ }
+// The inventory of a product before a week: the opening one before the first, else the one that is carried.
+fn inventory_before(plant: &[u8], f: Shape, week: usize, product: usize, carried: u64) -> u64
+    requires { ⌜ (plantForm (now plant) ≡ Good f) × (product < f .products) ⌝ }
+    ensures { λ r. ⌜ r ≡ carriedInto week (plantOf f (now (plant .entry)) .openingInventory product) carried ⌝ }
 {
     if week == 0 {
-        return 0;
+        return opening_inventory(plant, f, product);
     }
-    let last = last_of(slots, f, week - 1, from);
-    let first = first_of(slots, f, week, to);
-    last * first
+    carried
 }
 
-// The sales of a product in a week, over the customers.
-fn sold_of(slots: &[u8], f: Shape, week: usize, product: usize) -> u64
-    requires { ⌜ (slotForm f (now slots) ≡ Good f) × (week < f .weeks) × (product < f .products) ⌝ }
-    ensures { λ r. ⌜ r ≡ sumBelow (f .customers) (λ c. slotsOf f (now (slots .entry)) .sales c product week) ⌝ }
-{
-    let customers = count(f.customers);
-    let mut sum = 0;
-    let mut customer = 0;
-    while customer < customers {
-        sum += sales(slots, f, customer, product, week);
-        customer += 1;
-    }
-    sum
-}
-
-// V: the inventory of a product after a week, from the opening on.
-fn inventory_of(plant: &[u8], slots: &[u8], f: Shape, week: usize, product: usize) -> u64
-    requires { ⌜ Ran f (now plant) (now slots) × (week < f .weeks) × (product < f .products) ⌝ }
-    ensures { λ r. ⌜ r ≡ runTables (plantOf f (now (plant .entry))) (slotsOf f (now (slots .entry))) .inventory week product ⌝ }
-{
-    let grams = rate(plant, f, product);
-    let mut stock = opening_inventory(plant, f, product);
-    let mut w = 0;
-    while w <= week {
-        let t = tally(slots, f, w, product);
-        stock = stock + grams * t.minutes - sold_of(slots, f, w, product);
-        w += 1;
-    }
-    stock
-}
-
-// Δ: the backlog of a customer and product after a week, from the opening on.
-fn backlog_of(
+// A week's row of V, of its row of P and the row of V of the week before.
+fn inventory_row(
     plant: &[u8],
     slots: &[u8],
     f: Shape,
-    customer: usize,
-    product: usize,
     week: usize,
-) -> u64
-    requires { ⌜ Ran f (now plant) (now slots) × (customer < f .customers) × (product < f .products) × (week < f .weeks) ⌝ }
-    ensures { λ r. ⌜ r ≡ runTables (plantOf f (now (plant .entry))) (slotsOf f (now (slots .entry))) .backlog customer product week ⌝ }
+    made: [u64; 26],
+    before: [u64; 26],
+) -> [u64; 26]
+    requires { ⌜ Ran f (now plant) (now slots) × (week < f .weeks) × Carried f (runTables (plantOf f (now plant)) (slotsOf f (now slots))) week made before
+        × (f .products ≤ 16) ⌝ }
+    ensures { λ r. ⌜ Row (f .products) (runTables (plantOf f (now (plant .entry))) (slotsOf f (now (slots .entry))) .inventory week) r ⌝ }
 {
-    let mut owed = opening_backlog(plant, f, customer, product);
-    let mut w = 0;
-    while w <= week {
-        let wanted = demand(plant, f, customer, product, w);
-        owed = owed + wanted - sales(slots, f, customer, product, w);
-        w += 1;
+    let products = count(f.products);
+    let mut row = [0; 26];
+    let mut i = 0;
+    while i < products {
+        let held = inventory_before(plant, f, week, i, before[i]);
+        row[i] = held + made[i] - sold_of(slots, f, i, week);
+        i += 1;
     }
-    owed
+    row
 }
 
-// Where number q stands in tables of m by n, one after the other.
-fn cell_of(q: usize, m: u8, n: u8) -> Cell
-    requires { ⌜ (0 < m) × (0 < n) ⌝ }
-    ensures { λ r. ⌜ Located q m n r ⌝ }
+// A customer's and product's row of S.
+fn sales_row(slots: &[u8], f: Shape, customer: usize, product: usize) -> [u64; 26]
+    requires { ⌜ (slotForm f (now slots) ≡ Good f) × (customer < f .customers) × (product < f .products) × (f .weeks ≤ 26) ⌝ }
+    ensures { λ r. ⌜ Row (f .weeks) (slotsOf f (now (slots .entry)) .sales customer product) r ⌝ }
 {
-    let rows = count(m);
-    let columns = count(n);
-    let line = q / columns;
-    let table = line / rows;
-    let row = line % rows;
-    let column = q % columns;
-    Cell { table, row, column }
+    let weeks = count(f.weeks);
+    let mut row = [0; 26];
+    let mut week = 0;
+    while week < weeks {
+        row[week] = sales(slots, f, customer, product, week);
+        week += 1;
+    }
+    row
 }
 
-// Number q of the body in a place, of those by week and product.
-fn week_number(plant: &[u8], slots: &[u8], f: Shape, place: usize, q: usize) -> u64
-    requires { ⌜ Ran f (now plant) (now slots) × (place < 10) × (place ≢ 3) × (place ≢ 4) × (place ≢ 8) × (q < countIn f place) ⌝ }
-    ensures { λ r. ⌜ r ≡ numberIn f (runTables (plantOf f (now (plant .entry))) (slotsOf f (now (slots .entry)))) place q ⌝ }
+// A customer's and product's row of Δ, from the opening on.
+fn backlog_row(plant: &[u8], slots: &[u8], f: Shape, customer: usize, product: usize) -> [u64; 26]
+    requires { ⌜ Ran f (now plant) (now slots) × (customer < f .customers) × (product < f .products) × (f .weeks ≤ 26) ⌝ }
+    ensures { λ r. ⌜ Row (f .weeks) (runTables (plantOf f (now (plant .entry))) (slotsOf f (now (slots .entry))) .backlog customer product) r ⌝ }
 {
-    let at = cell_of(q, f.weeks, f.products);
-    let week = at.row;
-    let product = at.column;
-    if place == 1 {
-        return first_of(slots, f, week, product);
+    let weeks = count(f.weeks);
+    let mut row = [0; 26];
+    let mut backlog = opening_backlog(plant, f, customer, product);
+    let mut week = 0;
+    while week < weeks {
+        let due = backlog + demand(plant, f, customer, product, week);
+        backlog = due - sales(slots, f, customer, product, week);
+        row[week] = backlog;
+        week += 1;
     }
-    if place == 2 {
-        return last_of(slots, f, week, product);
-    }
-    if place == 9 {
-        return inventory_of(plant, slots, f, week, product);
-    }
-    let t = tally(slots, f, week, product);
-    if place == 0 {
-        return t.ran;
-    }
-    if place == 5 {
-        return t.place;
-    }
-    if place == 6 {
-        return t.minutes;
-    }
-    rate(plant, f, product) * t.minutes
+    row
 }
 
-// Number q of the body in a place; `profit` is the profit's number of 8 bytes.
-fn number_of(plant: &[u8], slots: &[u8], f: Shape, profit: u64, place: usize, q: usize) -> u64
+// Row r of the body in a place; `profit` is the profit's number of 8 bytes, and `before` the row before it.
+fn row_of(
+    plant: &[u8],
+    slots: &[u8],
+    f: Shape,
+    profit: u64,
+    place: usize,
+    r: usize,
+    before: [u64; 26],
+) -> [u64; 26]
     requires { ⌜ Ran f (now plant) (now slots) × (profit ≡ unsignedOf (runTables (plantOf f (now plant)) (slotsOf f (now slots)) .profit)) × (place < 12)
-        × (q < countIn f place) ⌝ }
-    ensures { λ r. ⌜ r ≡ numberIn f (runTables (plantOf f (now (plant .entry))) (slotsOf f (now (slots .entry)))) place q ⌝ }
+        × (r < rowsIn f place) × Preceded f (runTables (plantOf f (now plant)) (slotsOf f (now slots))) place r before ⌝ }
+    ensures { λ q. ⌜ Row (columnsIn f place) (rowIn f (runTables (plantOf f (now (plant .entry))) (slotsOf f (now (slots .entry)))) place r) q ⌝ }
 {
     if place == 11 {
-        return profit;
+        return [profit; 26];
     }
-    let square = cell_of(q, f.products, f.products);
-    if place == 3 {
-        return neighbours_of(slots, f, square.table, square.row, square.column);
-    }
-    if place == 4 {
-        return week_changeover_of(slots, f, square.table, square.row, square.column);
-    }
-    let trade = cell_of(q, f.products, f.weeks);
+    let products = count(f.products);
+    let table = r / products;
+    let row = r % products;
     if place == 8 {
-        return sales(slots, f, trade.table, trade.row, trade.column);
+        return sales_row(slots, f, table, row);
     }
     if place == 10 {
-        return backlog_of(plant, slots, f, trade.table, trade.row, trade.column);
+        return backlog_row(plant, slots, f, table, row);
     }
-    week_number(plant, slots, f, place, q)
+    if place == 3 {
+        return line_row(slots, f, table, 3, row);
+    }
+    if place == 4 {
+        return line_row(slots, f, table, 4, row);
+    }
+    if place == 7 {
+        return production_row(plant, f, line_row(slots, f, r, 6, 0));
+    }
+    if place == 9 {
+        let made = production_row(plant, f, line_row(slots, f, r, 6, 0));
+        return inventory_row(plant, slots, f, r, made, before);
+    }
+    line_row(slots, f, r, place, 0)
 }
 
 // How many bytes each number of the body in a place has.
@@ -287,26 +251,50 @@ fn width_of(place: usize) -> usize
     widths[place]
 }
 
-// How many numbers the body in a place has.
-fn count_of(f: Shape, place: usize) -> usize
+// How many rows the body in a place has.
+fn rows_of(f: Shape, place: usize) -> usize
     requires { ⌜ place < 12 ⌝ }
-    ensures { λ r. ⌜ r ≡ countIn f place ⌝ }
+    ensures { λ r. ⌜ r ≡ rowsIn f place ⌝ }
 {
-    let grid = area(f.weeks, f.products);
-    let cube = volume(f.weeks, f.products, f.products);
-    let trade = volume(f.customers, f.products, f.weeks);
+    let weeks = count(f.weeks);
+    let squares = area(f.weeks, f.products);
+    let pairs = area(f.customers, f.products);
     let counts = [
-        grid,
-        grid,
-        grid,
-        cube,
-        cube,
-        grid,
-        grid,
-        grid,
-        trade,
-        grid,
-        trade,
+        weeks,
+        weeks,
+        weeks,
+        squares,
+        squares,
+        weeks,
+        weeks,
+        weeks,
+        pairs,
+        weeks,
+        pairs,
+        1,
+    ];
+    counts[place]
+}
+
+// How many numbers each of these rows has.
+fn columns_of(f: Shape, place: usize) -> usize
+    requires { ⌜ (place < 12) × (f .products ≤ 16) × (f .weeks ≤ 26) ⌝ }
+    ensures { λ r. ⌜ (r ≡ columnsIn f place) × (r ≤ 26) ⌝ }
+{
+    let products = count(f.products);
+    let weeks = count(f.weeks);
+    let counts = [
+        products,
+        products,
+        products,
+        products,
+        products,
+        products,
+        products,
+        products,
+        weeks,
+        products,
+        weeks,
         1,
     ];
     counts[place]
@@ -319,14 +307,18 @@ fn write_body(out: &mut [u8], plant: &[u8], slots: &[u8], f: Shape, profit: u64,
     ensures { λ _. ⌜ now (out .exit) ≡ store (now (out .entry)) 0
         (getD (planBodies f (runTables (plantOf f (now (plant .entry))) (slotsOf f (now (slots .entry))))) place []) ⌝ }
 {
-    let k = width_of(place);
-    let total = count_of(f, place);
+    let width = width_of(place);
+    let rows = rows_of(f, place);
+    let columns = columns_of(f, place);
+    let size = width * columns;
+    let mut row = [0; 26];
     let mut p = 0;
-    let mut q = 0;
-    while q < total {
-        write(out, p, k, number_of(plant, slots, f, profit, place, q));
-        p += k;
-        q += 1;
+    let mut r = 0;
+    while r < rows {
+        row = row_of(plant, slots, f, profit, place, r, row);
+        write_all(&mut out[p..], width, &row[..columns]);
+        p += size;
+        r += 1;
     }
 }
 

@@ -133,12 +133,12 @@ pub fn slot_count(s: &[u8], f: Shape, week: usize) -> usize
     cell_in(s, 0, 1, week) as usize
 }
 
-// How many slots the file has.
-pub fn slot_total(s: &[u8], f: Shape) -> usize
-    requires { ⌜ slotForm f (now s) ≡ Good f ⌝ }
-    ensures { λ r. ⌜ (r ≡ slotsBefore (now (s .entry)) (f .weeks)) × (r ≤ 65025) ⌝ }
+// How many slots the file has before a week; before the week after the last, all.
+pub fn week_start(s: &[u8], f: Shape, week: usize) -> usize
+    requires { ⌜ (slotForm f (now s) ≡ Good f) × (week ≤ f .weeks) ⌝ }
+    ensures { λ r. ⌜ (r ≡ slotsBefore (now (s .entry)) week) × (r ≤ 65025) ⌝ }
 {
-    slots_before(s, count(f.weeks))
+    slots_before(s, week)
 }
 
 // Section 42: the product of slot j of all.

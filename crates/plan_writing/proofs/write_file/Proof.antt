@@ -14,7 +14,7 @@ use Rattle.plan_file.specs.Form.{planLengths}
 use Rattle.plan_file.specs.File.{planBodies}
 use Rattle.slot_file.specs.Slots.{slotsOf}
 use Rattle.model.specs.RunTables.{runTables}
-use Rattle.plan_writing.proofs.BodyNumbers.{contents-first, file-last, stretch-stored}
+use Rattle.plan_writing.proofs.Bodies.{contents-first, file-last, stretch-stored}
 use Rattle.plan_writing.proofs.write_file.Statement.{statement}
 use Rattle.plan_writing.proofs.write_file.Tie as tie
 

@@ -1,4 +1,4 @@
--- `machine::State::run_lent` meets its contract: a walk of its MIR, by hand. The array lies in a local of its own, and its first slots are lent
+-- `machine::State::run_lent` meets its contract, by a walk of its MIR. The array lies in a local of its own, and its first slots are lent
 -- for the call of `run_row`, for a lifetime that is made for it and ended after it. Assumes nothing.
 use mathlib.Core.Path.{_≡_, refl, sym, subst}
 use Prim.Native.Nat.{ℕ, _≤_, _<_, _^_}

@@ -1,6 +1,5 @@
--- `machine::State::run_row` meets its contract: a walk of its MIR, by hand. In each turn the row is looked into, one slot is copied out of it
--- and the row is shut again, and then `slot_after` is called; `Reached` is what holds at the loop's test. The variant is the number of slots left.
--- Assumes nothing.
+-- `machine::State::run_row` meets its contract, by a walk of its MIR. In each turn the row is looked into, one slot is copied out of it and
+-- the row is shut again; then `slot_after` is called. `Reached` holds at the loop's test, and each turn leaves fewer slots. Assumes nothing.
 use mathlib.Core.Path.{_≡_, refl, sym, ap, subst}
 use Prim.Native.Nat.{ℕ, _+_, _*_, _-_, _<_, _^_}
 use native.Mathlib.Omega.{arith}
@@ -208,7 +207,7 @@ module _ {M : Type 1} (𝓤 : URA M) (H : Heap 𝓤) (A : Atoms 𝓤) (W : Given
           (step-laws.mir, l₀) ∷ (state-laws.mir, l₁) ∷ (bytes-ty, l₂) ∷ (shape-laws.mir, l₃) ∷ (row-ty, l₄) ∷ (step-laws.mir, l₅)
           ∷ (word, l₆) ∷ (outcome-laws.mir, l₇) ∷ (word, l₈) ∷ (tyBool, l₉) ∷ (tyPtr, l₁₀) ∷ (slot-laws.mir, l₁₁) ∷ []
 
-      -- what is owned in the loop, at the place i and with what its slots gave, with what the locals of the test hold
+      -- what is owned in the loop, at the place i: `less` and `count` stand for the test's two locals, and r is what the first i slots gave
       abbrev Held : Item 𝓤 → Item 𝓤 → ℕ → Step → List (Item 𝓤)
       Held less count i r =
           ‵ Lent ∷ ‵ (flft κ′ q′) ∷ ‵ Own ∷ ‵ (Plant κ plant) ∷ ‵ (flft κ q)
@@ -244,7 +243,7 @@ module _ {M : Type 1} (𝓤 : URA M) (H : Heap 𝓤) (A : Atoms 𝓤) (W : Given
           (init ! 11 refl (tt, record { fits = room .0 })) $
           assigns ! (bin ! (load ! (from ! (stop !)) (look ! 15 refl)) (load ! (from ! (stop !)) (look ! 11 refl)) tt) (from ! (stop !))
           (init ! 9 refl (tt, tt)) $
-          rewrite ! 9 (λ (z : Bool). ‵ (fat fullShare tyBool l₉ 0 (vbool z))) (e) refl $
+          rewrite ! 9 (λ (z : Bool). ‵ (fat fullShare tyBool l₉ 0 (vbool z))) e refl $
           next)
 
       -- what slot i gives after r

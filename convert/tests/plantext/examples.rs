@@ -1,0 +1,136 @@
+//! The example texts: the small plant is the sample files, and the plants of
+//! source 004 say what its tables say.
+
+use plantext::binary;
+use plantext::model::{Names, Plant, Slots};
+use plantext::{plant_text, slots_text};
+
+use crate::machine;
+use crate::{read, read_text};
+
+fn plant(name: &str) -> (Plant, Names) {
+    let text = read(&format!("examples/{name}.plant.txt"));
+    plant_text::read(&text).unwrap_or_else(|faults| panic!("{name}: {faults:?}"))
+}
+
+fn slots(name: &str) -> Slots {
+    let (plant, names) = plant(name);
+    let text = read(&format!("examples/{name}.slots.txt"));
+    slots_text::read(plant.sizes, &names, &text)
+        .unwrap_or_else(|faults| panic!("{name}: {faults:?}"))
+}
+
+#[test]
+fn the_small_plant_is_the_sample_files() {
+    let (plant, _) = plant("small");
+    assert_eq!(binary::encode_plant(&plant), read("crates/formcheck/data/plant.bin"));
+    assert_eq!(binary::encode_slots(&slots("small")), read("crates/formcheck/data/slots.bin"));
+    assert_eq!(machine::run(&plant, &slots("small")), Ok(8_650_000));
+}
+
+#[test]
+fn the_document_shows_the_small_plant() {
+    let document = read_text("docs/TEXT.md");
+    assert!(document.contains(&read_text("examples/small.plant.txt")));
+    assert!(document.contains(&read_text("examples/small.slots.txt")));
+}
+
+/// Thousandths of a cent of the examples to one of source 004's dollars.
+const DOLLAR: i64 = 300 * 100 * 1000;
+
+#[test]
+fn the_ten_products_run_near_the_sources_profit() {
+    // Table 4's greatest profits, in tenths of a dollar.
+    for (name, profit, greatest) in [
+        ("ten-products-4-weeks", 163_145_262_976, 54_388),
+        ("ten-products-6-weeks", 244_016_670_368, 81_348),
+        ("ten-products-8-weeks", 319_597_680_448, 106_549),
+    ] {
+        let (plant, _) = plant(name);
+        assert_eq!(machine::run(&plant, &slots(name)), Ok(profit), "{name}");
+        let greatest = greatest * DOLLAR / 10;
+        assert!(profit <= greatest, "{name}");
+        assert!(profit > greatest / 1000 * 999, "{name}");
+    }
+}
+
+/// Table 5's sales of each product by week, in tenths of a ton.
+const SALES: [[i64; 8]; 10] = [
+    [107, 203, 0, 0, 310, 0, 0, 0],
+    [0, 169, 101, 150, 120, 0, 0, 150],
+    [190, 0, 80, 190, 60, 0, 262, 68],
+    [360, 0, 60, 0, 0, 360, 60, 0],
+    [430, 0, 430, 0, 430, 0, 430, 0],
+    [0, 137, 0, 343, 0, 0, 240, 0],
+    [0, 0, 261, 0, 40, 0, 0, 273],
+    [0, 300, 0, 120, 79, 341, 0, 300],
+    [0, 0, 150, 0, 33, 117, 0, 100],
+    [0, 270, 0, 270, 4, 266, 90, 180],
+];
+
+/// Table 5's backlogs of each product by week, in tenths of a ton.
+const BACKLOGS: [[i64; 8]; 10] = [
+    [203, 0, 0, 0, 0, 0, 0, 0],
+    [120, 101, 0, 0, 0, 0, 150, 0],
+    [0, 40, 0, 0, 0, 60, 8, 0],
+    [0, 0, 0, 0, 60, 0, 0, 0],
+    [0, 0, 0, 0, 0, 0, 0, 0],
+    [240, 103, 103, 0, 0, 0, 0, 0],
+    [120, 120, 129, 129, 209, 209, 329, 56],
+    [30, 0, 30, 0, 11, 0, 30, 0],
+    [150, 300, 300, 450, 567, 600, 750, 800],
+    [0, 0, 0, 0, 86, 0, 0, 0],
+];
+
+#[test]
+fn the_demand_is_that_of_the_sources_sales_and_backlogs() {
+    let (plant, _) = plant("ten-products-8-weeks");
+    for product in 0..10 {
+        let mut backlog = 0;
+        for week in 0..8 {
+            let demand: u32 = (0..plant.sizes.customers)
+                .map(|customer| plant.sizes.customer_product_week(customer, product, week))
+                .map(|place| plant.demand[place])
+                .sum();
+            let expected = SALES[product][week] + BACKLOGS[product][week] - backlog;
+            assert_eq!(i64::from(demand), expected * 100_000, "product {product} week {week}");
+            backlog = BACKLOGS[product][week];
+        }
+    }
+}
+
+#[test]
+fn the_prices_and_costs_are_the_sources() {
+    let (plant, names) = plant("ten-products-8-weeks");
+    // Table 3, in dollars per ton.
+    let prices = [10, 12, 13, 12, 15, 10, 8, 14, 7, 15];
+    for (product, price) in prices.map(|price| price * 30).into_iter().enumerate() {
+        assert_eq!(plant.inventory_costs[product] * 10, price);
+        for (customer, name) in names.customers.iter().enumerate() {
+            let pair = plant.sizes.customer_product(customer, product);
+            let paid = match (plant.wants(customer, product), name.as_str()) {
+                (false, _) => 0,
+                (true, "C10") => price * 3 / 2,
+                (true, _) => price,
+            };
+            assert_eq!(plant.prices[pair], paid, "{name} {product}");
+            assert_eq!(plant.backlog_costs[pair] * 5, paid, "{name} {product}");
+        }
+    }
+    // 10 dollars for 60 minutes.
+    for (minutes, cents) in plant.changeover_minutes.iter().zip(&plant.changeover_cents) {
+        assert_eq!(u32::from(*minutes) * 10 * 100 * 300, cents * 60);
+    }
+}
+
+#[test]
+fn the_shorter_plants_are_the_first_weeks_of_the_longest() {
+    let (longest, names) = plant("ten-products-8-weeks");
+    for weeks in [4, 6] {
+        let mut cut = longest.clone();
+        cut.sizes.weeks = weeks;
+        cut.demand =
+            longest.demand.chunks(8).flat_map(|demand| &demand[..weeks]).copied().collect();
+        assert_eq!(plant(&format!("ten-products-{weeks}-weeks")), (cut, names.clone()));
+    }
+}

@@ -1,0 +1,243 @@
+//! `plantext` as a program: arguments, exit status and what becomes of OUT.
+
+use std::fs;
+use std::path::{Path, PathBuf};
+use std::process::{Command, Output};
+
+use crate::texts::{changed, PLANT, SLOTS};
+use crate::{read, repository};
+
+/// A folder of the test's own, with the small plant's texts and files.
+struct Folder {
+    path: PathBuf,
+}
+
+impl Folder {
+    fn new(name: &str) -> Folder {
+        let path = Path::new(env!("CARGO_TARGET_TMPDIR")).join(name);
+        if path.exists() {
+            fs::remove_dir_all(&path).expect("an old folder goes");
+        }
+        fs::create_dir_all(&path).expect("a new folder");
+        let folder = Folder { path };
+        folder.write("plant.txt", changed(&PLANT, &[]).as_bytes());
+        folder.write("slots.txt", changed(&SLOTS, &[]).as_bytes());
+        folder.write("plant.bin", &read("crates/formcheck/data/plant.bin"));
+        folder.write("slots.bin", &read("crates/formcheck/data/slots.bin"));
+        folder
+    }
+
+    fn write(&self, name: &str, bytes: &[u8]) {
+        fs::write(self.path.join(name), bytes).expect("a file of the test");
+    }
+
+    fn read(&self, name: &str) -> Vec<u8> {
+        fs::read(self.path.join(name)).unwrap_or_else(|error| panic!("{name}: {error}"))
+    }
+
+    fn names(&self) -> Vec<String> {
+        let entries = fs::read_dir(&self.path).expect("the folder");
+        let mut names: Vec<String> = entries
+            .map(|entry| entry.expect("an entry").file_name().into_string().expect("a name"))
+            .collect();
+        names.sort();
+        names
+    }
+
+    fn run(&self, arguments: &str) -> Output {
+        Command::new(env!("CARGO_BIN_EXE_plantext"))
+            .args(arguments.split_whitespace())
+            .current_dir(&self.path)
+            .output()
+            .expect("plantext runs")
+    }
+
+    /// Runs a command that goes well, and gives what it prints.
+    fn printed(&self, arguments: &str) -> String {
+        let output = self.run(arguments);
+        assert_eq!(text(&output.stderr), "", "{arguments}");
+        assert_eq!(output.status.code(), Some(0), "{arguments}");
+        text(&output.stdout)
+    }
+
+    /// Runs a command that fails with status 1, and gives what it tells.
+    fn told(&self, arguments: &str) -> String {
+        let output = self.run(arguments);
+        assert_eq!(text(&output.stdout), "", "{arguments}");
+        assert_eq!(output.status.code(), Some(1), "{arguments}");
+        text(&output.stderr)
+    }
+}
+
+fn text(bytes: &[u8]) -> String {
+    String::from_utf8(bytes.to_vec()).expect("a text")
+}
+
+#[test]
+fn wrong_arguments_print_the_usage() {
+    let folder = Folder::new("usage");
+    let before = folder.names();
+    for arguments in [
+        "",
+        "help",
+        "plant",
+        "plant plant.txt",
+        "plant plant.txt out.bin more",
+        "slots plant.txt slots.txt",
+        "slots plant.txt slots.txt out.bin more",
+        "show",
+        "show plant.bin slots.bin more",
+        "convert plant.txt out.bin",
+    ] {
+        let output = folder.run(arguments);
+        assert_eq!(output.status.code(), Some(2), "{arguments}");
+        assert_eq!(text(&output.stdout), "", "{arguments}");
+        assert!(text(&output.stderr).starts_with("usage: plantext plant TEXT OUT "), "{arguments}");
+    }
+    assert_eq!(folder.names(), before);
+}
+
+#[test]
+fn texts_become_files() {
+    let folder = Folder::new("texts_become_files");
+    assert_eq!(folder.printed("plant plant.txt out.bin"), "");
+    assert_eq!(folder.read("out.bin"), folder.read("plant.bin"));
+    // A file that is there is replaced.
+    assert_eq!(folder.printed("slots plant.txt slots.txt out.bin"), "");
+    assert_eq!(folder.read("out.bin"), folder.read("slots.bin"));
+    assert_eq!(folder.names(), ["out.bin", "plant.bin", "plant.txt", "slots.bin", "slots.txt"]);
+}
+
+#[test]
+fn files_become_texts_and_files_again() {
+    let folder = Folder::new("files_become_texts");
+    let plant = folder.printed("show plant.bin");
+    assert!(plant.contains("\ndemand C1 P2 week 2 200000 grams\n"), "{plant}");
+    folder.write("shown-plant.txt", plant.as_bytes());
+    folder.printed("plant shown-plant.txt again-plant.bin");
+    assert_eq!(folder.read("again-plant.bin"), folder.read("plant.bin"));
+
+    let slots = folder.printed("show plant.bin slots.bin");
+    assert!(slots.contains("\nweek 2\nrun P2 3000 minutes\n"), "{slots}");
+    folder.write("shown-slots.txt", slots.as_bytes());
+    folder.printed("slots plant.bin shown-slots.txt again-slots.bin");
+    assert_eq!(folder.read("again-slots.bin"), folder.read("slots.bin"));
+}
+
+#[test]
+fn the_plants_text_has_the_names() {
+    let folder = Folder::new("names");
+    let slots = folder.printed("show plant.txt slots.bin");
+    assert_eq!(
+        slots,
+        "week 1\nrun A 5000 minutes\nrun B 2000 minutes\nsell C1 A 400000 grams\n\
+         sell C1 B 100000 grams\n\nweek 2\nrun B 3000 minutes\nrun A 2000 minutes\n\
+         sell C1 A 300000 grams\nsell C1 B 150000 grams\n"
+    );
+    assert!(folder.printed("show plant.txt").contains("\nrate A 100 grams per minute\n"));
+}
+
+#[test]
+fn a_fault_leaves_the_output_as_it_was() {
+    let folder = Folder::new("faults");
+    folder.write("bad-plant.txt", changed(&PLANT, &[(7, "rate A 0"), (3, "")]).as_bytes());
+    folder.write("bad-slots.txt", changed(&SLOTS, &[(2, "run D 5000")]).as_bytes());
+    folder.write("out.bin", b"as it was");
+    let before = folder.names();
+    let plant_faults =
+        "bad-plant.txt:7: 0 grams per minute is out of limits; expected a rate of 1 \
+                        to 100000 grams per minute\nbad-plant.txt:24: shortest-run is missing; \
+                        expected a line: shortest-run NUMBER minutes\n";
+    let slots_faults = "bad-slots.txt:2: unknown product \"D\"; expected one of A, B\n";
+    for out in ["out.bin", "new.bin"] {
+        assert_eq!(folder.told(&format!("plant bad-plant.txt {out}")), plant_faults);
+        assert_eq!(folder.told(&format!("slots bad-plant.txt slots.txt {out}")), plant_faults);
+        assert_eq!(folder.told(&format!("slots plant.txt bad-slots.txt {out}")), slots_faults);
+    }
+    assert_eq!(folder.read("out.bin"), b"as it was");
+    assert_eq!(folder.names(), before);
+}
+
+#[test]
+fn files_that_are_not_good_are_refused() {
+    let folder = Folder::new("refusals");
+    for (name, sample) in [("rate.bin", "plant-5-rate.bin"), ("empty.bin", "plant-1-empty.bin")] {
+        folder.write(name, &read(&format!("crates/formcheck/data/{sample}")));
+    }
+    folder.write("product.bin", &read("crates/formcheck/data/slots-24-product.bin"));
+    let out_of_range = "rate.bin: refused 5: a number of the plant is out of its range\n";
+    assert_eq!(folder.told("show rate.bin"), out_of_range);
+    assert_eq!(folder.told("show rate.bin slots.bin"), out_of_range);
+    assert_eq!(folder.told("slots rate.bin slots.txt out.bin"), out_of_range);
+    assert_eq!(
+        folder.told("show plant.bin product.bin"),
+        "product.bin: refused 24: a week has no slot or more slots than products, or a slot's \
+         product is not one of the plant's\n"
+    );
+    let no_plant = "refused 1: it is too short for a plant file's contents, or its kind, count of \
+                    sections or section numbers are not a plant file's\n";
+    assert_eq!(folder.told("show slots.bin"), format!("slots.bin: {no_plant}"));
+    assert_eq!(folder.told("show empty.bin"), format!("empty.bin: {no_plant}"));
+    assert!(folder.told("show plant.bin plant.bin").starts_with("plant.bin: refused 21: "));
+}
+
+#[test]
+fn an_input_is_never_written_over() {
+    let folder = Folder::new("inputs");
+    let told = |name: &str| format!("{name}: is read from; expected another file to write to\n");
+    assert_eq!(folder.told("plant plant.txt plant.txt"), told("plant.txt"));
+    assert_eq!(folder.told("slots plant.txt slots.txt ./plant.txt"), told("./plant.txt"));
+    assert_eq!(folder.told("slots plant.txt slots.txt slots.txt"), told("slots.txt"));
+    assert_eq!(folder.read("plant.txt"), changed(&PLANT, &[]).as_bytes());
+    assert_eq!(folder.read("slots.txt"), changed(&SLOTS, &[]).as_bytes());
+}
+
+#[cfg(unix)]
+#[test]
+fn a_link_or_a_pipe_is_written_through() {
+    use std::os::unix::fs::{symlink, FileTypeExt};
+
+    let folder = Folder::new("links");
+    folder.write("out.bin", b"as it was");
+    symlink("out.bin", folder.path.join("link")).expect("a new link");
+    folder.printed("plant plant.txt link");
+    assert_eq!(folder.read("out.bin"), folder.read("plant.bin"));
+    assert!(folder.path.join("link").is_symlink());
+
+    let pipe = folder.path.join("pipe");
+    let made = Command::new("mkfifo").arg(&pipe).status().expect("mkfifo runs");
+    assert!(made.success());
+    let reader = {
+        let pipe = pipe.clone();
+        std::thread::spawn(move || fs::read(pipe).expect("the pipe is read"))
+    };
+    folder.printed("plant plant.txt pipe");
+    // Before the reader is waited for: it would wait for ever on a pipe that was replaced.
+    assert!(fs::metadata(&pipe).expect("the pipe").file_type().is_fifo());
+    assert_eq!(reader.join().expect("the reader ends"), folder.read("plant.bin"));
+}
+
+#[test]
+fn files_that_cannot_be_read_or_written_are_told() {
+    let folder = Folder::new("unreadable");
+    for arguments in ["plant none.txt out.bin", "slots none.txt slots.txt out.bin", "show none.txt"]
+    {
+        assert!(folder.told(arguments).starts_with("none.txt: cannot be read: "), "{arguments}");
+    }
+    assert!(folder
+        .told("plant plant.txt none/out.bin")
+        .starts_with("none/out.bin: cannot be written: "));
+    fs::create_dir(folder.path.join("folder")).expect("a new folder");
+    assert!(folder.told("plant plant.txt folder").starts_with("folder: cannot be written: "));
+    assert_eq!(folder.names(), ["folder", "plant.bin", "plant.txt", "slots.bin", "slots.txt"]);
+}
+
+#[test]
+fn the_usage_is_the_documents() {
+    let folder = Folder::new("document");
+    let usage = text(&folder.run("").stderr);
+    let document = fs::read_to_string(repository("docs/TEXT.md")).expect("the document");
+    for line in usage.lines() {
+        assert!(document.contains(line.trim_start_matches("usage:").trim()), "{line}");
+    }
+}

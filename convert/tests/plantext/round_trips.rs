@@ -1,0 +1,145 @@
+//! From numbers to text and back, and to bytes and back.
+
+use plantext::model::Names;
+use plantext::{binary, plant_text, slots_text};
+
+use crate::random::Random;
+use crate::read;
+use crate::texts;
+
+#[test]
+fn plants_come_back_from_text_and_bytes() {
+    for seed in 0..200 {
+        let plant = Random::new(seed).plant();
+        let names = Names::numbered(plant.sizes);
+        let text = plant_text::write(&plant, &names);
+        assert_eq!(plant_text::read(text.as_bytes()), Ok((plant.clone(), names)), "seed {seed}");
+        let file = binary::encode_plant(&plant);
+        assert_eq!(binary::decode_plant(&file), Ok(plant), "seed {seed}");
+    }
+}
+
+#[test]
+fn slots_come_back_from_text_and_bytes() {
+    for seed in 0..200 {
+        let mut random = Random::new(seed);
+        let sizes = random.plant().sizes;
+        let slots = random.slots(sizes);
+        let names = Names::numbered(sizes);
+        let text = slots_text::write(sizes, &names, &slots);
+        let back = slots_text::read(sizes, &names, text.as_bytes());
+        assert_eq!(back, Ok(slots.clone()), "seed {seed}");
+        let file = binary::encode_slots(&slots);
+        assert_eq!(binary::decode_slots(sizes, &file), Ok(slots), "seed {seed}");
+    }
+}
+
+#[test]
+fn the_greatest_plant_comes_back() {
+    let file = read("crates/formcheck/data/plant-0-greatest.bin");
+    let plant = binary::decode_plant(&file).expect("a good plant file");
+    let text = plant_text::write(&plant, &Names::numbered(plant.sizes));
+    let (back, _) = plant_text::read(text.as_bytes()).expect("a good text");
+    assert_eq!(binary::encode_plant(&back), file);
+}
+
+#[test]
+fn facts_without_units_are_in_the_units_of_the_file() {
+    let text = texts::changed(&texts::PLANT, &[]);
+    let (plant, names) = plant_text::read(text.as_bytes()).expect("a good text");
+    assert_eq!(binary::encode_plant(&plant), read("crates/formcheck/data/plant.bin"));
+    assert_eq!(names.products, ["A", "B"]);
+    assert_eq!(names.customers, ["C1"]);
+
+    let text = texts::changed(&texts::SLOTS, &[]);
+    let slots = slots_text::read(plant.sizes, &names, text.as_bytes()).expect("a good text");
+    assert_eq!(binary::encode_slots(&slots), read("crates/formcheck/data/slots.bin"));
+}
+
+/// The small plant after changes to its text.
+fn plant_after(changes: &[(usize, &str)]) -> plantext::model::Plant {
+    let text = texts::changed(&texts::PLANT, changes);
+    let (plant, _) = plant_text::read(text.as_bytes()).unwrap_or_else(|faults| {
+        panic!("{changes:?}: {faults:?}");
+    });
+    plant
+}
+
+#[test]
+fn units_may_be_written() {
+    let small = plant_after(&[]);
+    let written = plant_after(&[
+        (2, "week-minutes 10080 minutes"),
+        (3, "shortest-run 300 minutes"),
+        (7, "rate A 100 grams per minute"),
+        (11, "inventory-cost A 1 cent per kilogram"),
+        (13, "storage A 0 2000 kilograms"),
+        (14, "storage B 0 2000000 grams"),
+        (15, "price C1 A 10 cents per kilogram"),
+        (17, "backlog-cost C1 A 2 cents per kilogram"),
+        (21, "demand C1 A week 1 400 kilograms"),
+        (22, "demand C1 A week 2 300.000 kilograms"),
+        (23, "demand C1 B week 1 100000 grams"),
+    ]);
+    assert_eq!(written, small);
+}
+
+#[test]
+fn kilograms_may_have_decimals() {
+    let grams = |line: &str| plant_after(&[(19, line)]).opening_inventory[0];
+    assert_eq!(grams("opening-inventory A 1 kilogram"), 1000);
+    assert_eq!(grams("opening-inventory A 1.5 kilograms"), 1500);
+    assert_eq!(grams("opening-inventory A 0.001 kilograms"), 1);
+    assert_eq!(grams("opening-inventory A 12.3450 kilograms"), 12_345);
+    assert_eq!(grams("opening-inventory A 1 gram"), 1);
+    assert_eq!(grams("opening-inventory A 7.0 grams"), 7);
+}
+
+#[test]
+fn what_is_not_written_is_0() {
+    let small = plant_after(&[]);
+    // Opening numbers of 0 need no lines.
+    assert_eq!(plant_after(&[(19, ""), (20, "")]), small);
+    // Without demand there is no need of a price.
+    let plant = plant_after(&[(16, ""), (18, ""), (23, ""), (24, "demand C1 B week 2 0")]);
+    assert_eq!(plant.demand, [400_000, 300_000, 0, 0]);
+    assert_eq!(plant.prices, [10, 0]);
+    assert_eq!(plant.backlog_costs, [2, 0]);
+}
+
+#[test]
+fn order_space_and_comments_do_not_matter() {
+    let small = plant_after(&[]);
+    let mut lines = texts::PLANT.to_vec();
+    // The products keep their order, and with it their numbers.
+    lines.reverse();
+    lines.retain(|line| !line.starts_with("product"));
+    lines.extend(["product A", "product B"]);
+    let text = lines.join("  # why\r\n\r\n\t");
+    let text = format!("\u{feff}# a plant\n{text}");
+    let (plant, _) = plant_text::read(text.as_bytes()).expect("a good text");
+    assert_eq!(plant, small);
+}
+
+#[test]
+fn names_are_any_words() {
+    let text = texts::changed(&texts::PLANT, &[])
+        .replace("A", "Größe-1")
+        .replace("B", "week")
+        .replace("C1", "Größe-1");
+    let (plant, names) = plant_text::read(text.as_bytes()).expect("a good text");
+    assert_eq!(plant, plant_after(&[]));
+    assert_eq!(names.products, ["Größe-1", "week"]);
+    assert_eq!(names.customers, ["Größe-1"]);
+    let written = plant_text::write(&plant, &names);
+    assert_eq!(plant_text::read(written.as_bytes()), Ok((plant, names)));
+}
+
+#[test]
+fn sales_that_are_not_written_are_0() {
+    let (plant, names) =
+        plant_text::read(texts::changed(&texts::PLANT, &[]).as_bytes()).expect("a good text");
+    let text = texts::changed(&texts::SLOTS, &[(4, ""), (10, "sell C1 B 0.5 kilograms")]);
+    let slots = slots_text::read(plant.sizes, &names, text.as_bytes()).expect("a good text");
+    assert_eq!(slots.sales, [0, 300_000, 100_000, 500]);
+}

@@ -1,0 +1,259 @@
+//! Random plants of every size, each with slots and sales that mostly run
+//! without a stop.
+
+use std::ops::RangeInclusive;
+
+use crate::model::{Plant, Sizes, Slot, Slots, Storage};
+use crate::random::Random;
+use crate::samples;
+
+const MOST_PRODUCTS: u64 = 16;
+const MOST_CUSTOMERS: u64 = 8;
+const MOST_WEEKS: u64 = 26;
+const MOST_MINUTES: u16 = 10_080;
+const MOST_STORAGE: u64 = 4_000_000_000;
+
+#[derive(Clone, Debug)]
+pub struct Scenario {
+    pub plant: Plant,
+    pub slots: Slots,
+}
+
+impl Scenario {
+    pub fn new(random: &mut Random, sizes: Sizes) -> Scenario {
+        let mut plant = plant(random, sizes);
+        let mut schedule = Schedule::new(&plant);
+        for week in 0..sizes.weeks {
+            schedule.add_week(random, week);
+        }
+        let Schedule { slots, least_stock, greatest_stock, .. } = schedule;
+        plant.storage = least_stock
+            .into_iter()
+            .zip(greatest_stock)
+            .map(|(least, greatest)| storage(random, least, greatest))
+            .collect();
+        Scenario { plant, slots }
+    }
+}
+
+/// Mostly small sizes, and each limit often enough.
+pub fn sizes(random: &mut Random) -> Sizes {
+    const MOST: [u64; 3] = [MOST_PRODUCTS, MOST_CUSTOMERS, MOST_WEEKS];
+    let mut usual = random.pick(&[[3, 2, 3], [6, 3, 5]]);
+    let chosen = random.below(3);
+    let mut least = [1; 3];
+    match random.below(32) {
+        0 => return greatest_sizes(),
+        1 => usual = MOST,
+        2..=4 => usual[chosen] = MOST[chosen],
+        5..=7 => (least[chosen], usual[chosen]) = (MOST[chosen], MOST[chosen]),
+        _ => {}
+    }
+    let mut size = |place: usize| random.between(least[place], usual[place]) as usize;
+    Sizes { products: size(0), customers: size(1), weeks: size(2) }
+}
+
+/// The greatest sizes, all at once.
+pub fn greatest_sizes() -> Sizes {
+    let [products, customers, weeks] =
+        [MOST_PRODUCTS, MOST_CUSTOMERS, MOST_WEEKS].map(|size| size as usize);
+    Sizes { products, customers, weeks }
+}
+
+/// How the numbers of one table lie in their range.
+#[derive(Clone, Copy)]
+enum Spread {
+    Least,
+    Greatest,
+    Edges,
+    Low,
+    Any,
+}
+
+const SPREADS: [Spread; 8] = [
+    Spread::Least,
+    Spread::Greatest,
+    Spread::Edges,
+    Spread::Low,
+    Spread::Low,
+    Spread::Any,
+    Spread::Any,
+    Spread::Any,
+];
+
+impl Spread {
+    fn number(self, random: &mut Random, range: &RangeInclusive<u32>) -> u32 {
+        let (&least, &greatest) = (range.start(), range.end());
+        match self {
+            Spread::Least => least,
+            Spread::Greatest => greatest,
+            Spread::Edges => random.pick(&[least, least + 1, greatest - 1, greatest]),
+            Spread::Low => random.between(least.into(), (greatest / 1000 + least).into()) as u32,
+            Spread::Any => random.between(least.into(), greatest.into()) as u32,
+        }
+    }
+}
+
+fn numbers(random: &mut Random, count: usize, range: RangeInclusive<u32>) -> Vec<u32> {
+    let spread = random.pick(&SPREADS);
+    (0..count).map(|_| spread.number(random, &range)).collect()
+}
+
+/// A square by product from and product to with a diagonal of 0.
+fn square(random: &mut Random, sizes: Sizes, greatest: u32) -> Vec<u32> {
+    let mut square = numbers(random, sizes.products * sizes.products, 0..=greatest);
+    for product in 0..sizes.products {
+        square[sizes.from_to(product, product)] = 0;
+    }
+    square
+}
+
+/// A plant whose storage is not set yet.
+fn plant(random: &mut Random, sizes: Sizes) -> Plant {
+    let by_customer = sizes.customers * sizes.products;
+    let any_week = random.between(1, MOST_MINUTES.into()) as u16;
+    let week_minutes = random.pick(&[1, 2, 300, any_week, any_week, MOST_MINUTES, MOST_MINUTES]);
+    let any_run = random.between(1, week_minutes.into()) as u16;
+    let short_run = (week_minutes / 30).max(1);
+    let shortest_run =
+        random.pick(&[1, short_run, short_run, short_run, short_run, any_run, week_minutes]);
+    let most_changeover = u32::from(random.pick(&[
+        2,
+        week_minutes.max(2) / 2 + 2,
+        week_minutes / 20 + 2,
+        week_minutes / 20 + 2,
+        MOST_MINUTES,
+    ]));
+    let changeover_minutes = square(random, sizes, most_changeover.min(MOST_MINUTES.into()));
+    Plant {
+        rates: numbers(random, sizes.products, 1..=100_000),
+        changeover_minutes: changeover_minutes.iter().map(|&minutes| minutes as u16).collect(),
+        changeover_cents: square(random, sizes, 1_000_000),
+        demand: numbers(random, by_customer * sizes.weeks, 0..=100_000_000),
+        prices: numbers(random, by_customer, 0..=100_000),
+        backlog_costs: numbers(random, by_customer, 0..=100_000),
+        inventory_costs: numbers(random, sizes.products, 0..=100_000),
+        opening_stock: numbers(random, sizes.products, 0..=MOST_STORAGE as u32),
+        opening_owed: numbers(random, by_customer, 0..=100_000_000),
+        shortest_run,
+        week_minutes,
+        ..samples::least_plant(sizes)
+    }
+}
+
+/// Limits that hold these numbers, where storage can be so great.
+fn storage(random: &mut Random, least_stock: u64, greatest_stock: u64) -> Storage {
+    let (least_stock, greatest_stock) =
+        (least_stock.min(MOST_STORAGE), greatest_stock.min(MOST_STORAGE));
+    let any_least = random.between(0, least_stock);
+    let any_greatest = random.between(greatest_stock, MOST_STORAGE);
+    Storage {
+        least: random.pick(&[0, any_least, least_stock]) as u32,
+        greatest: random.pick(&[greatest_stock, any_greatest, MOST_STORAGE]) as u32,
+    }
+}
+
+/// Slots and sales, week by week.
+struct Schedule<'plant> {
+    plant: &'plant Plant,
+    mounted: Option<usize>,
+    stock: Vec<u64>,
+    owed: Vec<u64>,
+    least_stock: Vec<u64>,
+    greatest_stock: Vec<u64>,
+    slots: Slots,
+}
+
+impl<'plant> Schedule<'plant> {
+    fn new(plant: &'plant Plant) -> Self {
+        let sizes = plant.sizes;
+        Schedule {
+            plant,
+            mounted: None,
+            stock: plant.opening_stock.iter().copied().map(u64::from).collect(),
+            owed: plant.opening_owed.iter().copied().map(u64::from).collect(),
+            least_stock: vec![u64::MAX; sizes.products],
+            greatest_stock: vec![0; sizes.products],
+            slots: Slots {
+                counts: Vec::new(),
+                slots: Vec::new(),
+                sales: vec![0; sizes.customers * sizes.products * sizes.weeks],
+            },
+        }
+    }
+
+    fn add_week(&mut self, random: &mut Random, week: usize) {
+        let mut products: Vec<usize> = (0..self.plant.sizes.products).collect();
+        random.shuffle(&mut products);
+        let most = random.between(1, products.len() as u64) as usize;
+        if random.one_in(3) {
+            // The week begins with what is mounted.
+            if let Some(place) = products.iter().position(|&product| Some(product) == self.mounted)
+            {
+                products.swap(0, place);
+            }
+        }
+        let mut clock = 0;
+        let mut count = 0;
+        for &product in products.iter().take(most) {
+            count += u8::from(self.add_slot(random, product, &mut clock));
+        }
+        if count == 0 {
+            // What is mounted needs no changeover, and the shortest run fits a week.
+            let product = self.mounted.unwrap_or(products[0]);
+            count += u8::from(self.add_slot(random, product, &mut clock));
+        }
+        self.slots.counts.push(count);
+        self.sell(random, week);
+    }
+
+    /// Adds a slot if the week has room for it.
+    fn add_slot(&mut self, random: &mut Random, product: usize, clock: &mut u64) -> bool {
+        let plant = self.plant;
+        let changeover = self.mounted.map_or(0, |from| {
+            u64::from(plant.changeover_minutes[plant.sizes.from_to(from, product)])
+        });
+        let shortest = u64::from(plant.shortest_run);
+        let Some(room) = u64::from(plant.week_minutes).checked_sub(*clock + changeover) else {
+            return false;
+        };
+        if room < shortest {
+            return false;
+        }
+        let any = random.between(shortest, room);
+        let some = random.between(shortest, shortest.max(room / 4));
+        let mut minutes = random.pick(&[shortest, some, some, some, any, room]);
+        let made = |minutes| u64::from(plant.rates[product]) * minutes;
+        if self.stock[product] + made(minutes) > MOST_STORAGE {
+            minutes = shortest;
+        }
+        *clock += changeover + minutes;
+        self.stock[product] += made(minutes);
+        self.mounted = Some(product);
+        self.slots.slots.push(Slot { product: product as u8, minutes: minutes as u16 });
+        true
+    }
+
+    /// Sells what is asked for and in stock, or part of it.
+    fn sell(&mut self, random: &mut Random, week: usize) {
+        let sizes = self.plant.sizes;
+        for customer in 0..sizes.customers {
+            for product in 0..sizes.products {
+                let place = sizes.customer_product_week(customer, product, week);
+                let pair = sizes.customer_product(customer, product);
+                let asked = self.owed[pair] + u64::from(self.plant.demand[place]);
+                let most = asked.min(self.stock[product]);
+                let any = random.between(0, most);
+                let sale = random.pick(&[0, any, any, most, most]);
+                self.owed[pair] = asked - sale;
+                self.stock[product] -= sale;
+                self.slots.sales[place] = sale as u32;
+            }
+        }
+        for product in 0..sizes.products {
+            let stock = self.stock[product];
+            self.least_stock[product] = self.least_stock[product].min(stock);
+            self.greatest_stock[product] = self.greatest_stock[product].max(stock);
+        }
+    }
+}

@@ -1,0 +1,344 @@
+//! The third demand by brute force, on tiny plants: among all plans of a grid,
+//! those that pass are exactly those that the runs give, and each gives the one
+//! slot file back.
+//!
+//! All slot files with a few minutes and sales are run. Then plan files are made
+//! whose numbers take all values of small sets, the values of the runs among
+//! them. Where all tables together are too many, either the marks and places
+//! vary over the numbers of each run, or the numbers over the marks of each run.
+
+use std::collections::{BTreeMap, BTreeSet};
+
+use doxkarin_tests::model::{Plant, Sizes, Slot, Slots, Storage};
+use doxkarin_tests::{library, reference, samples};
+
+type File = Vec<u8>;
+
+/// A plant with small numbers: one gram a minute, weeks of 4 minutes.
+fn tiny_plant(products: usize, customers: usize, weeks: usize) -> Plant {
+    let sizes = Sizes { products, customers, weeks };
+    let mut plant = samples::least_plant(sizes);
+    plant.week_minutes = 4;
+    plant.demand.fill(1);
+    plant.prices.fill(4);
+    plant.backlog_costs.fill(2);
+    plant.inventory_costs.fill(1);
+    plant.storage.fill(Storage { least: 0, greatest: 2 });
+    for from in 0..products {
+        for to in 0..products {
+            plant.changeover_minutes[sizes.from_to(from, to)] = u16::from(from != to);
+        }
+    }
+    plant
+}
+
+/// Every list of up to `most` slots with these minutes, also of one product twice.
+fn rows(products: usize, most: usize, minutes: &[u16]) -> Vec<Vec<Slot>> {
+    let mut rows: Vec<Vec<Slot>> = Vec::new();
+    let mut longest = vec![Vec::new()];
+    for _ in 0..most {
+        let mut longer = Vec::new();
+        for row in &longest {
+            for product in 0..products as u8 {
+                for &minutes in minutes {
+                    let mut row: Vec<Slot> = row.clone();
+                    row.push(Slot { product, minutes });
+                    longer.push(row);
+                }
+            }
+        }
+        rows.extend(longer.iter().cloned());
+        longest = longer;
+    }
+    rows
+}
+
+/// Every list of `count` of these values.
+fn lists<Value: Clone>(values: &[Value], count: usize) -> Vec<Vec<Value>> {
+    let mut lists = vec![Vec::new()];
+    for _ in 0..count {
+        lists = lists
+            .into_iter()
+            .flat_map(|list| {
+                values.iter().map(move |value| [list.clone(), vec![value.clone()]].concat())
+            })
+            .collect();
+    }
+    lists
+}
+
+/// Runs every slot file with these minutes and sales: the plan files of those
+/// that do not stop, each with its slot file.
+fn runs(plant: &Plant, minutes: &[u16], sales: &[u32]) -> BTreeMap<File, File> {
+    let Sizes { products, customers, weeks } = plant.sizes;
+    let plant_file = plant.encode();
+    let all_sales = lists(sales, customers * products * weeks);
+    let mut given = BTreeMap::new();
+    for weeks in lists(&rows(products, products, minutes), weeks) {
+        for sales in &all_sales {
+            let slot_file = Slots::from_rows(&weeks, sales.clone()).encode();
+            let expected = reference::plan_file(&plant_file, &slot_file);
+            let mut out = vec![0xa5; 1000];
+            let answer = library::plan(&plant_file, &slot_file, &mut out);
+            assert_eq!(answer, expected.as_ref().map(File::len).map_err(|&refusal| refusal));
+            if let Ok(length) = answer {
+                out.truncate(length);
+                assert!(given.insert(out, slot_file).is_none(), "two slot files give one plan");
+            }
+        }
+    }
+    given
+}
+
+/// A number of a file with the values that it takes.
+#[derive(Clone, Debug)]
+struct Cell {
+    offset: usize,
+    width: usize,
+    values: Vec<i64>,
+}
+
+impl Cell {
+    fn set(&self, file: &mut [u8], value: i64) {
+        file[self.offset..self.offset + self.width]
+            .copy_from_slice(&value.to_le_bytes()[..self.width]);
+    }
+}
+
+/// The width of the numbers of each section of a plan.
+const WIDTHS: [usize; 12] = [1, 1, 1, 1, 1, 1, 2, 4, 4, 4, 4, 8];
+
+/// A section, counted from 0, with the values that its numbers take.
+type Values<'values> = (usize, &'values [i64]);
+
+/// The cells of these sections of plan files.
+fn cells(given: &BTreeMap<File, File>, sections: &[Values]) -> Vec<Cell> {
+    let file = given.keys().next().expect("some slot file runs");
+    let places = contents(file);
+    let mut cells = Vec::new();
+    for &(section, values) in sections {
+        let width = WIDTHS[section];
+        let (offset, length) = places[section];
+        for offset in (offset..offset + length).step_by(width) {
+            cells.push(Cell { offset, width, values: values.to_vec() });
+        }
+    }
+    cells
+}
+
+/// Offset and length of each body.
+fn contents(file: &[u8]) -> Vec<(usize, usize)> {
+    let number = |place: usize| {
+        let bytes = file[place..place + 4].try_into().expect("four bytes");
+        u32::from_le_bytes(bytes) as usize
+    };
+    (0..WIDTHS.len())
+        .map(|entry| 2 + 9 * entry)
+        .map(|at| (number(at + 1), number(at + 5)))
+        .collect()
+}
+
+/// Every file with these cells at all their values.
+fn for_each_file(file: &mut [u8], cells: &[Cell], visit: &mut impl FnMut(&[u8])) {
+    match cells {
+        [] => visit(file),
+        [cell, rest @ ..] => {
+            for &value in &cell.values {
+                cell.set(file, value);
+                for_each_file(file, rest, visit);
+            }
+        }
+    }
+}
+
+/// The plans that pass, among those that were tried.
+struct Passed<'plant> {
+    plant: &'plant [u8],
+    given: &'plant BTreeMap<File, File>,
+    passed: BTreeSet<File>,
+    tried: u64,
+}
+
+impl<'plant> Passed<'plant> {
+    fn new(plant: &'plant [u8], given: &'plant BTreeMap<File, File>) -> Self {
+        Passed { plant, given, passed: BTreeSet::new(), tried: 0 }
+    }
+
+    fn try_plan(&mut self, plan: &[u8]) {
+        self.tried += 1;
+        if library::check(self.plant, plan).is_ok() && !self.passed.contains(plan) {
+            assert!(self.given.contains_key(plan), "no slot file gives {plan:?}");
+            self.passed.insert(plan.to_vec());
+        }
+    }
+
+    /// Every plan with the cells at all their values, over each plan of the runs.
+    /// Plans that differ in the cells only are gone through once.
+    fn try_around(&mut self, cells: &[Cell]) {
+        let mut seen = BTreeSet::new();
+        for plan in self.given.keys() {
+            let mut file = plan.clone();
+            for cell in cells {
+                cell.set(&mut file, 0);
+            }
+            if seen.insert(file.clone()) {
+                for_each_file(&mut file, cells, &mut |plan| self.try_plan(plan));
+            }
+        }
+    }
+
+    /// Asserts that the plans that passed are all those of the runs, and that the
+    /// slots of each are its slot file.
+    fn assert_all(self, at_least_tried: u64) {
+        let all: BTreeSet<File> = self.given.keys().cloned().collect();
+        assert!(!all.is_empty());
+        assert!(self.passed == all, "{} passed, {} given", self.passed.len(), all.len());
+        for (plan, slots) in self.given {
+            assert_eq!(library::check(self.plant, plan), Ok(profit(plan)));
+            let mut out = vec![0xa5; slots.len()];
+            assert_eq!(library::slots(self.plant, plan, &mut out), Ok(slots.len()));
+            assert!(out == *slots);
+        }
+        println!("{} plans tried, {} passed", self.tried, self.passed.len());
+        assert!(self.tried >= at_least_tried, "{} plans tried", self.tried);
+    }
+}
+
+const MARKS: &[i64] = &[0, 1];
+
+/// The profit that a plan file has.
+fn profit(plan: &[u8]) -> i64 {
+    i64::from_le_bytes(plan[plan.len() - 8..].try_into().expect("eight bytes"))
+}
+
+/// Profits of the runs, and each with one more.
+fn profits(given: &BTreeMap<File, File>) -> Vec<i64> {
+    let found: BTreeSet<i64> =
+        given.keys().map(|plan| profit(plan)).flat_map(|profit| [profit, profit + 1]).collect();
+    found.into_iter().collect()
+}
+
+/// The values of each section's numbers, where the marks are 0 or 1.
+fn values<'values>(
+    places: &'values [i64],
+    minutes: &'values [i64],
+    grams: &'values [i64],
+    profits: &'values [i64],
+) -> [Values<'values>; 12] {
+    [
+        (0, MARKS),
+        (1, MARKS),
+        (2, MARKS),
+        (3, MARKS),
+        (4, MARKS),
+        (5, places),
+        (6, minutes),
+        (7, minutes),
+        (8, grams),
+        (9, grams),
+        (10, grams),
+        (11, profits),
+    ]
+}
+
+fn numbers(values: impl IntoIterator<Item = impl Into<i64>>) -> Vec<i64> {
+    values.into_iter().map(Into::into).collect()
+}
+
+/// All values of all tables at once.
+fn assert_whole_grid(plant: &Plant, minutes: &[u16], sales: &[u32], least: u64) {
+    let given = runs(plant, minutes, sales);
+    let (minutes, grams) = (numbers(minutes.to_vec()), numbers(sales.to_vec()));
+    let (places, profits) = (numbers(0..=2), profits(&given));
+    let cells = cells(&given, &values(&places, &minutes, &grams, &profits));
+    let plant_file = plant.encode();
+    let mut passed = Passed::new(&plant_file, &given);
+    passed.try_around(&cells);
+    passed.assert_all(least);
+}
+
+/// All marks and places over the numbers of each run, and all numbers over the
+/// marks and places of each run.
+fn assert_two_grids(plant: &Plant, least: u64) {
+    let (minutes, sales) = ([0, 1, 2, 3], [0, 1, 2]);
+    let given = runs(plant, &minutes, &sales);
+    let (minutes, grams) = (numbers(minutes), numbers(sales));
+    let (places, profits) = (numbers(0..=plant.sizes.products as i64 + 1), profits(&given));
+    let values = values(&places, &minutes, &grams, &profits);
+    let plant_file = plant.encode();
+    let (structure, amounts) = values.split_at(6);
+    for sections in [structure, amounts] {
+        let mut passed = Passed::new(&plant_file, &given);
+        passed.try_around(&cells(&given, sections));
+        passed.assert_all(least);
+    }
+}
+
+#[test]
+fn one_product_one_customer_one_week() {
+    let plant = tiny_plant(1, 1, 1);
+    assert_whole_grid(&plant, &[0, 1, 2, 3, 4, 5], &[0, 1, 2, 3], 1_000_000);
+}
+
+#[test]
+fn one_product_two_customers_one_week() {
+    assert_whole_grid(&tiny_plant(1, 2, 1), &[0, 1, 2, 3], &[0, 1, 2], 1_000_000);
+}
+
+#[test]
+fn one_product_two_weeks() {
+    assert_two_grids(&tiny_plant(1, 1, 2), 100_000);
+}
+
+#[test]
+fn two_products_one_week() {
+    assert_two_grids(&tiny_plant(2, 1, 1), 1_000_000);
+}
+
+/// Three products that all run for a minute: of all F, L, Z and O only the six
+/// orders pass, and no ring.
+#[test]
+fn three_products_have_six_orders() {
+    let mut plant = tiny_plant(3, 1, 1);
+    plant.week_minutes = 5;
+    let given = runs(&plant, &[0, 1, 2], &[1]);
+    assert_eq!(given.len(), 6);
+    let places = numbers(0..=3);
+    let values: [Values; 4] = [(1, MARKS), (2, MARKS), (3, MARKS), (5, &places)];
+    let plant_file = plant.encode();
+    let mut passed = Passed::new(&plant_file, &given);
+    passed.try_around(&cells(&given, &values));
+    passed.assert_all(2_000_000);
+}
+
+/// Two products, two weeks: around each run every pair of numbers is changed.
+#[test]
+fn two_products_two_weeks() {
+    let mut plant = tiny_plant(2, 1, 2);
+    plant.opening_stock = vec![1, 0];
+    let (minutes, sales) = ([0, 1, 2], [0, 1]);
+    let given = runs(&plant, &minutes, &sales);
+    let (minutes, sales, grams) = (numbers(minutes), numbers(sales), numbers(0..=2));
+    let (places, profits) = (numbers(0..=2), profits(&given));
+    let mut values = values(&places, &minutes, &grams, &profits);
+    // Only sales of the slot files, all of which were run.
+    values[8].1 = &sales;
+    let cells = cells(&given, &values);
+
+    let plant_file = plant.encode();
+    let mut passed = Passed::new(&plant_file, &given);
+    for (turn, plan) in given.keys().enumerate() {
+        passed.try_plan(plan);
+        for (place, one) in cells.iter().enumerate() {
+            // Pairs with the profit, and all pairs around some of the runs.
+            let others =
+                if turn % 16 == 0 { &cells[place + 1..] } else { &cells[cells.len() - 1..] };
+            for other in others {
+                let mut file = plan.clone();
+                let pair = [one.clone(), other.clone()];
+                for_each_file(&mut file, &pair, &mut |plan| passed.try_plan(plan));
+            }
+        }
+    }
+    passed.assert_all(1_000_000);
+}

@@ -1,0 +1,90 @@
+//! The library against the second implementation. `cargo run --release --offline
+//! --manifest-path tests/Cargo.toml --bin differential -- SEED CASES` runs as
+//! many other cases as one likes.
+
+use doxkarin_tests::differential::{run, CALLS};
+use doxkarin_tests::model::{Refusal, Sizes};
+use doxkarin_tests::{library, reference, small};
+
+const SEED: u64 = 20_260_101;
+const CASES: u64 = 400_000;
+
+#[test]
+fn random_files_give_the_same_answers() {
+    let counts = run(SEED, CASES).unwrap_or_else(|difference| panic!("{difference}"));
+    println!("{counts}");
+    assert!(counts.cases >= CASES);
+    for call in CALLS {
+        assert_eq!(counts.numbers(call), call.numbers(), "{call:?}");
+    }
+
+    type Wanted = fn(Sizes) -> bool;
+    let limits: [(&str, Wanted); 7] = [
+        ("1 product", |sizes| sizes.products == 1),
+        ("16 products", |sizes| sizes.products == 16),
+        ("1 customer", |sizes| sizes.customers == 1),
+        ("8 customers", |sizes| sizes.customers == 8),
+        ("1 week", |sizes| sizes.weeks == 1),
+        ("26 weeks", |sizes| sizes.weeks == 26),
+        ("all", |sizes| (sizes.products, sizes.customers, sizes.weeks) == (16, 8, 26)),
+    ];
+    for (name, wanted) in limits {
+        assert!(counts.has_passed(wanted), "no plan of {name} passed");
+    }
+}
+
+/// What an output holds before each call.
+const UNTOUCHED: [u8; 300] = [0xa5; 300];
+
+/// Asserts that all three calls agree on these files: the numbers that check and plan return.
+fn assert_same(plant: &[u8], plan: &[u8], slots: &[u8]) -> [Refusal; 2] {
+    let checked = reference::check(plant, plan);
+    assert_eq!(library::check(plant, plan), checked);
+
+    let (mut one, mut other) = (UNTOUCHED, UNTOUCHED);
+    assert_eq!(library::slots(plant, plan, &mut one), reference::slots(plant, plan, &mut other));
+    assert!(one == other);
+
+    let (mut one, mut other) = (UNTOUCHED, UNTOUCHED);
+    let written = reference::plan(plant, slots, &mut other);
+    assert_eq!(library::plan(plant, slots, &mut one), written);
+    assert!(one == other);
+    [checked.err().unwrap_or(0), written.err().unwrap_or(0)]
+}
+
+#[test]
+fn every_byte_of_the_small_files_takes_every_value() {
+    let right = [small::plant().encode(), small::plan().encode(), small::slots().encode()];
+    let mut numbers = Vec::new();
+    for (file, bytes) in right.iter().enumerate() {
+        for place in 0..bytes.len() {
+            for value in 0..=255 {
+                let mut files = right.clone();
+                files[file][place] = value;
+                let [plant, plan, slots] = &files;
+                numbers.extend(assert_same(plant, plan, slots));
+            }
+        }
+    }
+    numbers.sort_unstable();
+    numbers.dedup();
+    // A plan's lengths can be wrong only with an offset, so that no single byte gives 13.
+    let expected: Vec<Refusal> =
+        (0..=5).chain([11, 12, 14]).chain(21..=25).chain(31..=41).collect();
+    assert_eq!(numbers, expected);
+}
+
+#[test]
+fn the_small_files_are_cut_anywhere() {
+    let right = [small::plant().encode(), small::plan().encode(), small::slots().encode()];
+    for (file, bytes) in right.iter().enumerate() {
+        for length in 0..bytes.len() {
+            let mut files = right.clone();
+            files[file].truncate(length);
+            let [plant, plan, slots] = &files;
+            let numbers = assert_same(plant, plan, slots);
+            let expected = [[1, 2].map(|row| [row, row]), [[11, 0], [12, 0]], [[0, 21], [0, 22]]];
+            assert!(expected[file].contains(&numbers), "{file} {length} {numbers:?}");
+        }
+    }
+}

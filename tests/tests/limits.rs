@@ -1,0 +1,102 @@
+//! The least and the greatest plant, files and outputs of more than 2^32 bytes,
+//! and files of another kind.
+
+use doxkarin_tests::model::{Plant, Sizes, Slot, Slots};
+use doxkarin_tests::{library, machine, reference, samples, small};
+
+/// Asserts that slots run to this profit, and that plan and slots are each
+/// other's.
+fn assert_runs(plant: &Plant, slots: &Slots, profit: i64) {
+    let (plant_file, slot_file) = (plant.encode(), slots.encode());
+    let plan_file = machine::run(plant, slots).expect("the run never stops").encode();
+    let mut out = vec![0xa5; plan_file.len()];
+    assert_eq!(library::plan(&plant_file, &slot_file, &mut out), Ok(plan_file.len()));
+    assert!(out == plan_file);
+    assert_eq!(library::check(&plant_file, &plan_file), Ok(profit));
+    assert_eq!(reference::check(&plant_file, &plan_file), Ok(profit));
+    let mut out = vec![0xa5; slot_file.len()];
+    assert_eq!(library::slots(&plant_file, &plan_file, &mut out), Ok(slot_file.len()));
+    assert!(out == slot_file);
+}
+
+#[test]
+fn the_least_plant_runs() {
+    let mut plant = samples::least_plant(Sizes { products: 1, customers: 1, weeks: 1 });
+    plant.storage[0].greatest = 1;
+    let slots = Slots::from_rows(&[vec![Slot { product: 0, minutes: 1 }]], vec![0]);
+    assert_runs(&plant, &slots, 0);
+    plant.inventory_costs[0] = 1;
+    assert_runs(&plant, &slots, -1);
+}
+
+/// One product runs all weeks and is sold as it is made; everything else is
+/// owed, and all stock lies at the greatest limit.
+#[test]
+fn the_greatest_plant_runs() {
+    let mut plant = samples::greatest_plant();
+    plant.rates[3] = 79_000;
+    let sizes = plant.sizes;
+    let made = 79_000 * 10_080;
+    let mut sales = vec![0; sizes.customers * sizes.products * sizes.weeks];
+    for customer in 0..sizes.customers {
+        for week in 0..sizes.weeks {
+            sales[sizes.customer_product_week(customer, 3, week)] = made / 8;
+        }
+    }
+    let slots =
+        Slots::from_rows(&vec![vec![Slot { product: 3, minutes: 10_080 }]; sizes.weeks], sales);
+
+    let unit = 100_000;
+    let sold = 26 * unit * i64::from(made);
+    let inventory = 26 * 16 * unit * 4_000_000_000;
+    // After week w, from 1, each of 8 customers is owed (w + 1) times the demand of the
+    // other 15 products, and of this one the opening amount and what was not sold.
+    let others: i64 = (1..=26).map(|week| 15 * (week + 1) * 100_000_000).sum();
+    let left = 100_000_000 - i64::from(made / 8);
+    let this: i64 = (1..=26).map(|week| 100_000_000 + week * left).sum();
+    let backlog = 8 * unit * (others + this);
+    assert_runs(&plant, &slots, sold - inventory - backlog);
+}
+
+/// What is left of these lengths in 32 bits would be right.
+#[test]
+fn lengths_beyond_32_bits_count() {
+    const BEYOND: usize = 1 << 32;
+    let files = [small::plant().encode(), small::plan().encode(), small::slots().encode()];
+    let [plant, plan, slots] = &files;
+    let mut out = [0xa5; 300];
+
+    // The pages that nothing reads or writes are never there.
+    let mut long = vec![0; BEYOND + 300];
+    long[..plant.len()].copy_from_slice(plant);
+    assert_eq!(library::check(&long[..BEYOND + plant.len()], plan), Err(2));
+    assert_eq!(library::plan(&long[..BEYOND + plant.len()], slots, &mut out), Err(2));
+    long[..plan.len()].copy_from_slice(plan);
+    assert_eq!(library::check(plant, &long[..BEYOND + plan.len()]), Err(12));
+    long[..300].fill(0);
+    long[..slots.len()].copy_from_slice(slots);
+    assert_eq!(library::plan(plant, &long[..BEYOND + slots.len()], &mut out), Err(22));
+    assert_eq!(out, [0xa5; 300]);
+
+    long[..300].fill(0xa5);
+    assert_eq!(library::plan(plant, slots, &mut long[..BEYOND]), Ok(plan.len()));
+    assert!(long[..plan.len()] == **plan && long[plan.len()..300] == out[plan.len()..]);
+    long[..300].fill(0xa5);
+    assert_eq!(library::slots(plant, plan, &mut long[..BEYOND]), Ok(slots.len()));
+    assert!(long[..slots.len()] == **slots && long[slots.len()..300] == out[slots.len()..]);
+}
+
+#[test]
+fn a_file_of_another_kind_is_refused() {
+    let (plant, plan) = (small::plant().encode(), small::plan().encode());
+    let slots = small::slots().encode();
+    let mut out = [0xa5; 300];
+    assert_eq!(library::check(&plan, &plant), Err(1));
+    assert_eq!(library::check(&plan, &plan), Err(1));
+    assert_eq!(library::check(&plant, &plant), Err(11));
+    assert_eq!(library::check(&plant, &slots), Err(11));
+    assert_eq!(library::slots(&plant, &slots, &mut out), Err(11));
+    assert_eq!(library::plan(&plant, &plan, &mut out), Err(21));
+    assert_eq!(library::plan(&slots, &slots, &mut out), Err(1));
+    assert_eq!(out, [0xa5; 300]);
+}

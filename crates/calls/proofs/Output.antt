@@ -11,8 +11,9 @@ use lib.ListN.{length, take, drop, length-append}
 use lib.Seq.{take-append-seam}
 use borrow.Author.Tests.{le-leb, lt-leb, leb-false}
 use Rattle.numbers.specs.Number.{store}
+use Rattle.calls.specs.declared.Written.{Written}
 use Rattle.calls.specs.declared.Written.the-variants.{Length, Refused}
-use Rattle.calls.specs.Answer.{Answer, bytes, lengthIn, writtenIn, outputAfter}
+use Rattle.calls.specs.Answer.{Answer, bytes, refused, lengthIn, writtenIn, outputAfter}
 
 module _ (b out : List ℕ) where
   pub too-short : length out < length b → (writtenIn (bytes b) out ≡ Refused 51) × (outputAfter (bytes b) out ≡ out)
@@ -26,6 +27,12 @@ module _ (b out : List ℕ) where
   -- the same, as the writers say it
   pub stored : length b ≤ length out → outputAfter (bytes b) out ≡ store out 0 b
   stored h = long-enough h .1 ∙ ap (λ (n : ℕ). b ++ drop n out) (sym (zero-add (length b)))
+
+-- a refusal, as `refuse` leaves it
+pub refused-as : {a : Answer} {n : ℕ} {out after : List ℕ} {r : Written} → a ≡ refused n → (r ≡ Refused n) × (after ≡ out)
+    → (r ≡ writtenIn a out) × (after ≡ outputAfter a out)
+unfolding writtenIn outputAfter
+refused-as e h = (rw e (h .0), rw e (h .1))
 
 -- ---- back from what was returned
 lengths : (t : Bool) (n m : ℕ) → lengthIn t n ≡ Length m → (t ≡ true) × (n ≡ m)

@@ -48,7 +48,8 @@ first-demand plant plan slots =
       plant-refused = λ n e. (rw e, rw e, rw e);
       plan-refused = λ f n e h. (rw (e, h), rw (e, h));
       rule-broken = λ f n e h v. (rw (e, h, v), rw (e, h, v));
-      refused-alike = λ n. rows-alike (plantForm plant) _ _ n (λ f. rows-alike (planForm f plan) _ _ n (λ _. rules-alike (verdictOf (plantOf f plant) (planOf f plan)) _ n));
+      refused-alike = λ n. rows-alike (plantForm plant) _ _ n (λ f. rows-alike (planForm f plan) _ _ n (λ _.
+          rules-alike (verdictOf (plantOf f plant) (planOf f plan)) _ n));
       slots-refused = λ f n e h. rw (e, h);
       run-stopped = λ f n e h r. rw (e, h, r);
     }

@@ -65,12 +65,15 @@ module _ (P : Plant) (w : ℕ) (a b : ℕ → ℕ → ℕ) (same : (c i : ℕ) �
 
   done-same : (s : State) → weekDone P w a s ≡ weekDone P w b s
   unfolding weekDone
-  done-same s = booked-same (backlogAfter P w a (inventoryAfter P a s)) ∙ ap (booked P b) (backlog-same (inventoryAfter P a s) ∙ ap (backlogAfter P w b) (inventory-same s))
+  done-same s =
+      booked-same (backlogAfter P w a (inventoryAfter P a s))
+      ∙ ap (booked P b) (backlog-same (inventoryAfter P a s) ∙ ap (backlogAfter P w b) (inventory-same s))
 
   due-same : (s : State) → salesDue P w a s ≡ salesDue P w b s
   unfolding salesDue
   due-same s =
-      all-ext (P .customers) _ _ (λ c k. all-ext (P .products) _ _ (λ i l. ap (λ (x : ℕ). leb x (backlogOf (P .products) s c i + P .demand c i w)) (same c i k l)))
+      all-ext (P .customers) _ _ (λ c k. all-ext (P .products) _ _ (λ i l.
+      ap (λ (x : ℕ). leb x (backlogOf (P .products) s c i + P .demand c i w)) (same c i k l)))
 
   stocked-same : (s : State) → salesInStock P a s ≡ salesInStock P b s
   unfolding salesInStock

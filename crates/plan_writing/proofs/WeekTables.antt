@@ -19,7 +19,7 @@ use Rattle.model.specs.RunTables.{orderOfSlots, whoRan, whoFirst, whoLast, neig
 use Rattle.plant_file.specs.Plant.{Plant}
 use Rattle.plan_writing.specs.Run.{passage}
 use Rattle.plan_writing.specs.Bodies.{rowIn}
-use Rattle.plan_writing.specs.Weights.{slotIn, afterIn, passageIn, weightIn, weighed}
+use Rattle.plan_writing.specs.Weights.{slotIn, afterIn, passageIn, weightOf, weighed}
 use Rattle.plan_writing.proofs.WeekSums.{ran-sum, minutes-sum, places-sum, first-is, last-is, neighbours-sum}
 
 -- ---- which slots there are
@@ -35,32 +35,6 @@ before-next : (s : List ℕ) (w : ℕ) → slotsBefore s (suc w) ≡ slotsBefore
 unfolding slotsBefore
 before-next s w = refl
 
--- ---- a slot's weight in Z and ZF, by the slot before it
-module _ (s : List ℕ) (w i k j : ℕ) (e : j ≡ slotsBefore s w + k) where
-  pub after-slot : k ≢ 0 → is (slotAt s (j - 1) .product) i ≡ afterIn s w i k
-  after-slot d = go k e d
-    where
-      go : (k : ℕ) → j ≡ slotsBefore s w + k → k ≢ 0 → is (slotAt s (j - 1) .product) i ≡ afterIn s w i k
-      go zero e d = absurd (d refl)
-      go (suc k) e d = let before : j - 1 ≡ slotsBefore s w + k = omega arith in ap (λ (x : ℕ). is (slotAt s x .product) i) before
-
-  pub passage-slot : w ≢ 0 → k ≡ 0 → is (slotAt s (j - 1) .product) i ≡ passageIn s w i k
-  passage-slot d n = rw n (go w (omega (arith, e, n)) d)
-    where
-      go : (w : ℕ) → j ≡ slotsBefore s w → w ≢ 0 → is (slotAt s (j - 1) .product) i ≡ passageIn s w i 0
-      go zero e d = absurd (d refl)
-      go (suc w) e d = ap (λ (x : ℕ). is (slotAt s (x - 1) .product) i) e
-
-pub passage-none : (s : List ℕ) (w i k : ℕ) → k ≢ 0 → passageIn s w i k ≡ 0
-passage-none s zero i k d = refl
-passage-none s (suc w) i zero d = absurd (d refl)
-passage-none s (suc w) i (suc k) d = refl
-
--- a later week has a slot before it
-pub some-before : (f : Shape) (s : List ℕ) (w : ℕ) → slotForm f s ≡ Good f → w < f .weeks → w ≢ 0 → 1 ≤ slotsBefore s w
-some-before f s zero good l d = absurd (d refl)
-some-before f s (suc w) good l d = omega (arith, before-next s w, some-slot f s w good (omega arith))
-
 -- ---- sums with a single term
 only-first : (n : ℕ) (g : ℕ → ℕ) → 0 < n → ((k : ℕ) → g (suc k) ≡ 0) → sumBelow n g ≡ g 0
 only-first n g l h = sum-only n g 0 l (rest g h)
@@ -71,16 +45,16 @@ only-first n g l h = sum-only n g 0 l (rest g h)
 
 module _ (f : Shape) (s : List ℕ) (w : ℕ) where
   ran-is : (i j : ℕ) → weighed s w 0 i j ≡ whoRan (orderOfSlots (slotsOf f s .line .week w)) j
-  unfolding weighed weightIn slotsOf
+  unfolding weighed weightOf slotsOf
   ran-is i j = sum-ext (slotCount s w) _ _ (λ k l. omega arith) ∙ sym (ran-sum (slotCount s w) (slotIn s w) j)
 
   places-is : (i j : ℕ) → weighed s w 5 i j ≡ placesFrom 0 (orderOfSlots (slotsOf f s .line .week w)) j
-  unfolding weighed weightIn slotsOf
+  unfolding weighed weightOf slotsOf
   places-is i j =
       sum-ext (slotCount s w) _ _ (λ k l. mul-comm (k + 1) (is (slotIn s w k .product) j)) ∙ sym (places-sum (slotCount s w) (slotIn s w) j)
 
   minutes-is : (i j : ℕ) → weighed s w 6 i j ≡ minutesOf (slotsOf f s .line .week w) j
-  unfolding weighed weightIn slotsOf
+  unfolding weighed weightOf slotsOf
   minutes-is i j =
       sum-ext (slotCount s w) _ _ (λ k l. mul-comm (slotIn s w k .minutes) (is (slotIn s w k .product) j))
       ∙ sym (minutes-sum (slotCount s w) (slotIn s w) j)
@@ -95,14 +69,14 @@ module _ (f : Shape) (s : List ℕ) (w : ℕ) where
     week-last j = rw e (last-is n (slotIn s w) j)
 
     first-shown : (i j : ℕ) → weighed s w 1 i j ≡ whoFirst (orderOfSlots (slotsOf f s .line .week w)) j
-    unfolding weighed weightIn
+    unfolding weighed weightOf
     first-shown i j =
         only-first (slotCount s w) (λ k. is k 0 * is (slotIn s w k .product) j) (omega (arith, e))
         (λ k. ap (λ (x : ℕ). x * is (slotIn s w (suc k) .product) j) (is-other (suc k) 0 (λ d. absurd (omega (arith, d)))) ∙ omega arith)
         ∙ (ap (λ (x : ℕ). x * is (slotIn s w 0 .product) j) (is-same 0 0 refl) ∙ (omega arith ∙ sym (week-first j)))
 
     last-shown : (i j : ℕ) → weighed s w 2 i j ≡ whoLast (orderOfSlots (slotsOf f s .line .week w)) j
-    unfolding weighed weightIn
+    unfolding weighed weightOf
     last-shown i j =
         sum-only (slotCount s w) (λ k. is (k + 1) (slotCount s w) * is (slotIn s w k .product) j) n (omega (arith, e))
         (λ k l d. ap (λ (x : ℕ). x * is (slotIn s w k .product) j) (is-other (k + 1) (slotCount s w) (λ h. d (omega (arith, h, e)))) ∙ omega arith)
@@ -110,9 +84,13 @@ module _ (f : Shape) (s : List ℕ) (w : ℕ) where
         ∙ (omega arith ∙ sym (week-last j)))
 
     neighbours-is : (i j : ℕ) → weighed s w 3 i j ≡ neighbours (orderOfSlots (slotsOf f s .line .week w)) i j
-    unfolding weighed weightIn slotsOf
+    unfolding weighed weightOf slotsOf
     neighbours-is i j =
-        rw e (sum-first n (λ k. afterIn s w i k * is (slotIn s w k .product) j) ∙ (omega arith ∙ sym (neighbours-sum n (slotIn s w) i j)))
+        let place : (k : ℕ) → slotsBefore s w + suc k - 1 ≡ slotsBefore s w + k = λ k. omega arith in
+        rw e (sum-first n (λ k. afterIn k (slotAt s (slotsBefore s w + k - 1) .product) i * is (slotIn s w k .product) j)
+        ∙ (omega arith
+        ∙ (sum-ext n _ _ (λ k l. ap (λ (x : ℕ). is (slotAt s x .product) i * is (slotIn s w (suc k) .product) j) (place k))
+        ∙ sym (neighbours-sum n (slotIn s w) i j))))
 
 -- ---- every table of the line, in a week of a good slot file
 module _ (f : Shape) (s : List ℕ) (good : slotForm f s ≡ Good f) where
@@ -123,12 +101,12 @@ module _ (f : Shape) (s : List ℕ) (good : slotForm f s ≡ Good f) where
   changeover-row w l = neighbours-is f s w (slotCount s w - 1) (counted w l)
 
   pub passage-row : (w : ℕ) → w < f .weeks → (i j : ℕ) → weighed s w 4 i j ≡ passage (slotsOf f s .line) w i j
-  unfolding weighed weightIn
+  unfolding weighed weightOf
   passage-row zero l i j = sum-zero (slotCount s 0) _ (λ k m. omega arith)
   passage-row (suc w) l i j =
       let n = slotCount s w - 1 in
-      let last : slotsBefore s (suc w) - 1 ≡ slotsBefore s w + n = omega (arith, before-next s w, some-slot f s w good (omega arith)) in
-      only-first (slotCount s (suc w)) (λ k. passageIn s (suc w) i k * is (slotIn s (suc w) k .product) j)
+      let last : slotsBefore s (suc w) + 0 - 1 ≡ slotsBefore s w + n = omega (arith, before-next s w, some-slot f s w good (omega arith)) in
+      only-first (slotCount s (suc w)) (λ k. passageIn (suc w) k (slotAt s (slotsBefore s (suc w) + k - 1) .product) i * is (slotIn s (suc w) k .product) j)
       (omega (arith, some-slot f s (suc w) good l)) (λ k. omega arith)
       ∙ ((λ u. ap (λ (x : ℕ). is (slotAt s x .product) i) last u * is (slotIn s (suc w) 0 .product) j)
       ∙ (λ u. sym (week-last f s w n (counted w (omega arith)) i) u

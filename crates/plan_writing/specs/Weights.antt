@@ -11,23 +11,24 @@ use Rattle.plan_writing.specs.Bodies.{Shows}
 abbrev pub slotIn : List ℕ → (w k : ℕ) → Slot
 slotIn s w k = slotAt s (slotsBefore s w + k)
 
--- Z: 1 where product i runs just before slot k of the week
-abbrev pub afterIn : List ℕ → (w i k : ℕ) → ℕ
-afterIn s w i zero = 0
-afterIn s w i (suc k) = is (slotIn s w k .product) i
+-- Z: 1 where slot k is not the first of its week, and the product b before it is i
+abbrev pub afterIn : (k b i : ℕ) → ℕ
+afterIn zero b i = 0
+afterIn (suc k) b i = is b i
 
--- ZF: 1 where slot k is the first of a later week, and product i the last of the week before
-abbrev pub passageIn : List ℕ → (w i k : ℕ) → ℕ
-passageIn s zero i k = 0
-passageIn s (suc w) i zero = is (slotAt s (slotsBefore s (suc w) - 1) .product) i
-passageIn s (suc w) i (suc k) = 0
+-- ZF: 1 where slot k is the first of a later week w, and the product b before it is i
+abbrev pub passageIn : (w k b i : ℕ) → ℕ
+passageIn zero k b i = 0
+passageIn (suc w) zero b i = is b i
+passageIn (suc w) (suc k) b i = 0
 
--- what slot k adds in the table in a place: E, F, L, Z, ZF, O, T; i is the product that Z and ZF lead from
-unfoldable pub weightIn : List ℕ → (w place i k : ℕ) → ℕ
-weightIn s w place i k =
-    getD
-    (1 ∷ is k 0 ∷ is (k + 1) (slotCount s w) ∷ afterIn s w i k ∷ passageIn s w i k ∷ (k + 1) ∷ slotIn s w k .minutes ∷ [])
-    place 0
+-- what slot k of the n of week w adds in the table in a place: E, F, L, Z, ZF, O, T. b is the product before it and m its minutes; i is
+-- the product that Z and ZF lead from
+unfoldable pub weightOf : (w n b m place i k : ℕ) → ℕ
+weightOf w n b m place i k = getD (1 ∷ is k 0 ∷ is (k + 1) n ∷ afterIn k b i ∷ passageIn w k b i ∷ (k + 1) ∷ m ∷ []) place 0
+
+abbrev pub weightIn : List ℕ → (w place i k : ℕ) → ℕ
+weightIn s w place i k = weightOf w (slotCount s w) (slotAt s (slotsBefore s w + k - 1) .product) (slotIn s w k .minutes) place i k
 
 -- the number of product j in it
 unfoldable pub weighed : List ℕ → (w place i j : ℕ) → ℕ

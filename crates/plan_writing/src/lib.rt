@@ -1,7 +1,7 @@
 // Plan writing: the plan file of a run without a stop, row by row in file order.
 ghost use mathlib.Core.Path.{_≡_};
 ghost use mathlib.Core.List.{[]};
-ghost use Prim.Native.Nat.{_+_, _*_, _≤_, _<_};
+ghost use Prim.Native.Nat.{_*_, _-_, _≤_, _<_};
 ghost use lib.ListN.{length, getD};
 ghost use Rattle.mathematics.specs.Below.{is};
 ghost use Rattle.numbers.specs.Number.{store};
@@ -12,14 +12,14 @@ ghost use Rattle.plant_file.specs.Plant.{plantOf};
 ghost use Rattle.plant_file.specs.Form.{plantForm};
 ghost use Rattle.plan_file.specs.Form.{planLengths};
 ghost use Rattle.plan_file.specs.File.{planBodies, planFile};
-ghost use Rattle.slot_file.specs.Slots.{slotCount, slotsBefore, slotsOf};
+ghost use Rattle.slot_file.specs.Slots.{slotsOf};
 ghost use Rattle.slot_file.specs.Form.{slotForm};
 ghost use Rattle.model.specs.RunTables.{runTables};
 ghost use Rattle.calls.specs.declared.Written.the-variants.{Length};
 ghost use Rattle.calls.specs.Answer.{bytes, planAnswer, writtenIn, outputAfter};
 ghost use Rattle.plan_writing.specs.Run.{Ran};
 ghost use Rattle.plan_writing.specs.Bodies.{widthIn, rowsIn, columnsIn, rowIn, Row, Small, carriedInto, Carried, Preceded};
-ghost use Rattle.plan_writing.specs.Weights.{weightIn, LineRow};
+ghost use Rattle.plan_writing.specs.Weights.{weightOf, LineRow};
 use calls::Written;
 use calls::refuse;
 use machine::Outcome;
@@ -53,20 +53,19 @@ fn same(a: usize, b: usize) -> u64
     if a == b { 1 } else { 0 }
 }
 
-// What slot k of a week, slot j of all, adds to the number of its product in the table in a place.
+// What slot k of the `total` of a week adds to the number of its product in the table in a place. `previous` is the product of the
+// slot before it, and `from` the product that Z and ZF lead from.
 fn weight_of(
-    slots: &[u8],
-    f: Shape,
     week: usize,
+    total: usize,
+    previous: usize,
+    minutes: u64,
     place: usize,
     from: usize,
     k: usize,
-    j: usize,
-    total: usize,
 ) -> u64
-    requires { ⌜ (slotForm f (now slots) ≡ Good f) × (week < f .weeks) × (place < 7) × (j ≡ slotsBefore (now slots) week + k) × (k < total)
-        × (total ≡ slotCount (now slots) week) × (total ≤ 255) ⌝ }
-    ensures { λ r. ⌜ (r ≡ weightIn (now (slots .entry)) week place from k) × (r ≤ 65535) ⌝ }
+    requires { ⌜ (minutes ≤ 65535) × (place < 7) × (k < 255) ⌝ }
+    ensures { λ r. ⌜ (r ≡ weightOf week total previous minutes place from k) × (r ≤ 65535) ⌝ }
 {
     if place == 0 {
         return 1;
@@ -81,7 +80,7 @@ fn weight_of(
         if k == 0 {
             return 0;
         }
-        return same(slot_product(slots, f, j - 1), from);
+        return same(previous, from);
     }
     if place == 4 {
         if week == 0 {
@@ -90,12 +89,22 @@ fn weight_of(
         if k != 0 {
             return 0;
         }
-        return same(slot_product(slots, f, j - 1), from);
+        return same(previous, from);
     }
     if place == 5 {
         return k as u64 + 1;
     }
-    slot_minutes(slots, f, j)
+    minutes
+}
+
+// The slot before a slot; the first of all for itself.
+fn slot_before(j: usize) -> usize
+    ensures { λ r. ⌜ r ≡ j - 1 ⌝ }
+{
+    if j == 0 {
+        return 0;
+    }
+    j - 1
 }
 
 // A week's row of E, F, L, O or T, or the row of Z or ZF from a product: one pass over the week's slots.
@@ -105,13 +114,16 @@ fn line_row(slots: &[u8], f: Shape, week: usize, place: usize, from: usize) -> [
 {
     let first = week_start(slots, f, week);
     let total = slot_count(slots, f, week);
+    let mut previous = slot_product(slots, f, slot_before(first));
     let mut row = [0; 26];
     let mut k = 0;
     while k < total {
         let j = first + k;
         let product = slot_product(slots, f, j);
-        let weight = weight_of(slots, f, week, place, from, k, j, total);
+        let minutes = slot_minutes(slots, f, j);
+        let weight = weight_of(week, total, previous, minutes, place, from, k);
         row[product] = row[product] + weight;
+        previous = product;
         k += 1;
     }
     row

@@ -5,7 +5,7 @@ use Rattle.calls.specs.declared.Check.{Check}
 use Rattle.calls.specs.declared.Check.the-variants as check
 use Rattle.calls.specs.declared.Written.{Written}
 use Rattle.calls.specs.declared.Written.the-variants as written
-use Rattle.calls.specs.Answer.{Answer, bytes, refused}
+use Rattle.calls.specs.Answer.{Answer, bytes, refused, slotAnswer, writtenIn}
 use Rattle.round_trip.specs.declared.RoundTrip.{RoundTrip}
 use Rattle.round_trip.specs.declared.RoundTrip.the-variants.{Returned, Refused}
 
@@ -13,6 +13,10 @@ use Rattle.round_trip.specs.declared.RoundTrip.the-variants.{Returned, R
 abbrev pub planBack : Written → (plan : List ℕ) → Answer
 planBack (written.Length n) plan = bytes plan
 planBack (written.Refused n) plan = refused n
+
+-- that, for an output that the slots were to be written into
+abbrev pub planAgain : (plant plan slots : List ℕ) → Answer
+planAgain plant plan slots = planBack (writtenIn (slotAnswer plant plan) slots) plan
 
 -- the plan's own profit, or the number of the refusal
 abbrev pub roundTrip : Check → Written → RoundTrip

@@ -2,7 +2,7 @@
 ghost use mathlib.Core.Path.{_≡_};
 ghost use Rattle.calls.specs.Check.{checkOf};
 ghost use Rattle.calls.specs.Answer.{slotAnswer, writtenIn, outputAfter};
-ghost use Rattle.round_trip.specs.RoundTrip.{planBack, roundTrip};
+ghost use Rattle.round_trip.specs.RoundTrip.{planAgain, roundTrip};
 use calls::Check;
 use calls::Written;
 use calls::check_plan;
@@ -24,10 +24,10 @@ pub enum RoundTrip {
 // Checks the plan, takes its slots, writes the plan of these slots, and checks what was written.
 pub fn round_trip(plant: &[u8], plan: &[u8], slots: &mut [u8], again: &mut [u8]) -> RoundTrip
     ensures result { λ r. ⌜ r ≡ roundTrip (checkOf (now (plant .entry)) (now (plan .entry)))
-        (writtenIn (planBack (writtenIn (slotAnswer (now (plant .entry)) (now (plan .entry))) (now (slots .entry))) (now (plan .entry))) (now (again .entry))) ⌝ }
+        (writtenIn (planAgain (now (plant .entry)) (now (plan .entry)) (now (slots .entry))) (now (again .entry))) ⌝ }
     ensures slots { λ _. ⌜ now (slots .exit) ≡ outputAfter (slotAnswer (now (plant .entry)) (now (plan .entry))) (now (slots .entry)) ⌝ }
     ensures plan { λ _. ⌜ now (again .exit)
-        ≡ outputAfter (planBack (writtenIn (slotAnswer (now (plant .entry)) (now (plan .entry))) (now (slots .entry))) (now (plan .entry))) (now (again .entry)) ⌝ }
+        ≡ outputAfter (planAgain (now (plant .entry)) (now (plan .entry)) (now (slots .entry))) (now (again .entry)) ⌝ }
 {
     match check_plan(plant, plan) {
         Check::Refused(n) => RoundTrip::Refused(n),

@@ -20,13 +20,17 @@ returns c = rw (sym (c .before .before .before .plant-form .ensures) ∙ c .befo
 returns-2 : tie.Need-returns-2
 unfolding checkOf
 returns-2 c =
-    rw (sym (c .before .before .before .before .before .before .before .plant-form .ensures) ∙ c .before .before .before .before .before .f .given .1, sym (c .before .before .before .plan-form .ensures) ∙ c .before .n2 .given .1)
+    rw (
+      sym (c .before .before .before .before .before .before .before .plant-form .ensures) ∙ c .before .before .before .before .before .f .given .1,
+      sym (c .before .before .before .plan-form .ensures) ∙ c .before .n2 .given .1,
+    )
 
 returns-3 : tie.Need-returns-3
 unfolding checkOf
 returns-3 c =
     rw (
-      sym (c .before .before .before .before .before .before .before .before .before .before .plant-form .ensures) ∙ c .before .before .before .before .before .before .before .before .f .given .1,
+      sym (c .before .before .before .before .before .before .before .before .before .before .plant-form .ensures)
+          ∙ c .before .before .before .before .before .before .before .before .f .given .1,
       sym (c .before .before .before .before .before .before .plan-form .ensures) ∙ c .before .before .before .before .enum-told .given .1,
       sym (c .before .before .before .judge .ensures) ∙ c .before .p .given .1,
     )
@@ -35,7 +39,8 @@ returns-4 : tie.Need-returns-4
 unfolding checkOf
 returns-4 c =
     rw (
-      sym (c .before .before .before .before .before .before .before .before .before .before .plant-form .ensures) ∙ c .before .before .before .before .before .before .before .before .f .given .1,
+      sym (c .before .before .before .before .before .before .before .before .before .before .plant-form .ensures)
+          ∙ c .before .before .before .before .before .before .before .before .f .given .1,
       sym (c .before .before .before .before .before .before .plan-form .ensures) ∙ c .before .before .before .before .enum-told .given .1,
       sym (c .before .before .before .judge .ensures) ∙ c .before .n3 .given .1,
     )

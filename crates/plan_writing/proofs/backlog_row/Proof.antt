@@ -65,7 +65,8 @@ loop-again c =
       filled (b .row) (runTables (plantOf (a .f) (a .plant .now)) (slotsOf (a .f) (a .slots .now)) .backlog (a .customer) (a .product)) (b .week) _
           (search needs)
           (next
-          ∙ ap (λ (w : ℕ). backlogOf (a .f .products) (after (plantOf (a .f) (a .plant .now)) (slotsOf (a .f) (a .slots .now)) w) (a .customer) (a .product)) later)
+          ∙ ap (λ (w : ℕ). backlogOf (a .f .products) (after (plantOf (a .f) (a .plant .now)) (slotsOf (a .f) (a .slots .now)) w) (a .customer) (a .product))
+          later)
           (b .inv .4),
     )
 

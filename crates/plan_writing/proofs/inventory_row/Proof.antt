@@ -34,13 +34,15 @@ module _ (c : tie.After-inventory-before Inv-loop μ-loop) where
   below : suc b ≤ s .args .f .products
   below = omega (arith, c .before .loop-test .taken, c .before .before .before .count .ensures .0)
 
-  held-is : c .inventory-before .result ≡ inventoryOf (after (plantOf (s .args .f) (s .args .plant .now)) (slotsOf (s .args .f) (s .args .slots .now)) (s .args .week)) b
+  held-is : c .inventory-before .result
+      ≡ inventoryOf (after (plantOf (s .args .f) (s .args .plant .now)) (slotsOf (s .args .f) (s .args .slots .now)) (s .args .week)) b
   held-is =
       c .inventory-before .ensures
       ∙ inventory-held (s .args .f) (s .args .plant .now) (s .args .slots .now) (s .pre .0) b below (s .args .week) (getD (s .args .t6) b 0)
       (λ w e. s .pre .2 .carried w e b below)
 
-  made-is : getD (s .args .t5) b 0 ≡ plantOf (s .args .f) (s .args .plant .now) .line .rate b * minutesOf (slotsOf (s .args .f) (s .args .slots .now) .line .week (s .args .week)) b
+  made-is : getD (s .args .t5) b 0
+      ≡ plantOf (s .args .f) (s .args .plant .now) .line .rate b * minutesOf (slotsOf (s .args .f) (s .args .slots .now) .line .week (s .args .week)) b
   unfolding runTables
   made-is = s .pre .2 .of-week b below
 

@@ -15,7 +15,8 @@ use Rattle.machine.specs.declared.Outcome.the-variants.{Stops}
 use Rattle.machine.specs.declared.Step.{Step}
 use Rattle.machine.specs.Run.{run}
 use Rattle.model.specs.RunTables.{runTables}
-use Rattle.calls.specs.Answer.{bytes, planAnswer, writtenIn, outputAfter}
+use Rattle.calls.specs.Answer.{bytes, planAnswer}
+use Rattle.calls.proofs.Output.{refused-as}
 use Rattle.plan_writing.specs.Run.{Ran}
 use Rattle.plan_writing.proofs.RunWeeks.{profit-is}
 use Rattle.plan_writing.proofs.plan_writing.Statement.{statement}
@@ -67,29 +68,26 @@ write-tables-requires c κs =
     )
 
 returns : tie.Need-returns
-unfolding planAnswer writtenIn outputAfter
+unfolding planAnswer
 returns c =
     let e = sym (c .before .before .before .before .before .before .before .plant-form .ensures) ∙ c .before .before .before .before .before .n .given .1 in
-    let r = c .before .before .refuse .ensures in
-    (rw e (r .0), rw e (r .1))
+    refused-as (rw e) (c .before .before .refuse .ensures)
 
 returns-2 : tie.Need-returns-2
-unfolding planAnswer writtenIn outputAfter
+unfolding planAnswer
 returns-2 c =
     let p = plant-good (c .before .before .before .before .before .before .before .before) in
     let e = sym (c .before .before .before .before .before .before .before .slot-form .ensures) ∙ c .before .before .before .before .before .n2 .given .1 in
-    let r = c .before .before .refuse2 .ensures in
-    (rw (p, e) (r .0), rw (p, e) (r .1))
+    refused-as (rw (p, e)) (c .before .before .refuse2 .ensures)
 
 returns-3 : tie.Need-returns-3
-unfolding planAnswer writtenIn outputAfter
+unfolding planAnswer
 returns-3 c =
     let k = c .before .before .before .before .before .before .before .before in
     let p = plant-good (k .before .before .before) in
     let q = slots-good k in
     let e = stopped (c .before .before .before .before) in
-    let r = c .before .before .refuse3 .ensures in
-    (rw (p, q, e) (r .0), rw (p, q, e) (r .1))
+    refused-as (rw (p, q, e)) (c .before .before .refuse3 .ensures)
 
 returns-4 : tie.Need-returns-4
 unfolding planAnswer

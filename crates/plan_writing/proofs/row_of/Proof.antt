@@ -77,7 +77,10 @@ single v u l e (suc j) m = absurd (omega arith)
 
 returns : tie.Need-returns
 unfolding columnsIn rowIn
-returns c = let s = c .before .before .before in let p = s .args .profit in at-place s 11 (replicate 26 p) (c .if1 .taken) refl (single p (unsignedOf (x s .profit)) (replicate 25 p) (s .pre .1))
+returns c =
+    let s = c .before .before .before in
+    let p = s .args .profit in
+    at-place s 11 (replicate 26 p) (c .if1 .taken) refl (single p (unsignedOf (x s .profit)) (replicate 25 p) (s .pre .1))
 
 sales-row-requires : tie.Need-sales-row-requires
 unfolding rowsIn
@@ -91,7 +94,8 @@ unfolding columnsIn rowIn runTables
 returns-2 c =
     let s = c .before .before .before .before .before .before in
     let d = c .before .before in
-    at-place s 8 (c .sales-row .result) (c .before .if2 .taken) (c .sales-row .ensures .1) (λ j l. c .sales-row .ensures .0 j l ∙ tabled s (d .count .result) (d .count .ensures .0) (S s .sales) j)
+    at-place s 8 (c .sales-row .result) (c .before .if2 .taken) (c .sales-row .ensures .1)
+    (λ j l. c .sales-row .ensures .0 j l ∙ tabled s (d .count .result) (d .count .ensures .0) (S s .sales) j)
 
 backlog-row-requires : tie.Need-backlog-row-requires
 unfolding rowsIn
@@ -183,7 +187,9 @@ inventory-row-requires c κs =
 
 returns-7 : tie.Need-returns-7
 unfolding columnsIn rowIn
-returns-7 c = let s = c .before .before .before .before .before .before .before .before .before .before .before .before .before in at-place s 9 (c .inventory-row .result) (c .before .before .before .if7 .taken) (c .inventory-row .ensures .1) (c .inventory-row .ensures .0)
+returns-7 c =
+    let s = c .before .before .before .before .before .before .before .before .before .before .before .before .before in
+    at-place s 9 (c .inventory-row .result) (c .before .before .before .if7 .taken) (c .inventory-row .ensures .1) (c .inventory-row .ensures .0)
 
 -- the places that are left: E, F, L, O and T
 less : {n p : ℕ} → p < n + 1 → p ≢ n → p < n
@@ -195,7 +201,9 @@ module _ (c : tie.Else7) where
 
   lower : start .args .place < 7
   lower =
-      less (less (less (less (less (start .pre .2) (c .before .before .before .before .before .before .before .if1 .left)) (c .before .before .before .before .if3 .left)) (c .if7 .left)) (c .before .before .before .before .before .if2 .left)) (c .before .if6 .left)
+      let eleven = less (start .pre .2) (c .before .before .before .before .before .before .before .if1 .left) in
+      let ten = less eleven (c .before .before .before .before .if3 .left) in
+      less (less (less ten (c .if7 .left)) (c .before .before .before .before .before .if2 .left)) (c .before .if6 .left)
 
   place-known : (rowsIn (start .args .f) (start .args .place) ≡ start .args .f .weeks) × (columnsIn (start .args .f) (start .args .place) ≡ N start)
   place-known = line-place (start .args .f) (start .args .place) lower (c .before .before .before .if4 .left) (c .before .before .if5 .left)
@@ -233,11 +241,15 @@ row-of-spec =
     returns-4
     line-row-requires-2
     returns-5
-    (λ c κs. let s = c .before .before .before .before .before .before .before .before .before in (s .pre .0 .slots-good, week-seven s (c .if6 .taken), search needs, small s .0))
-    (λ c κs. let s = c .before .before .before .before .before .before .before .before .before .before in (s .pre .0 .plant-good, small s .0, c .line-row3 .ensures .most))
+    (λ c κs. let s = c .before .before .before .before .before .before .before .before .before in
+    (s .pre .0 .slots-good, week-seven s (c .if6 .taken), search needs, small s .0))
+    (λ c κs. let s = c .before .before .before .before .before .before .before .before .before .before in
+    (s .pre .0 .plant-good, small s .0, c .line-row3 .ensures .most))
     returns-6
-    (λ c κs. let s = c .before .before .before .before .before .before .before .before .before .before in (s .pre .0 .slots-good, week-nine s (c .if7 .taken), search needs, small s .0))
-    (λ c κs. let s = c .before .before .before .before .before .before .before .before .before .before .before in (s .pre .0 .plant-good, small s .0, c .line-row4 .ensures .most))
+    (λ c κs. let s = c .before .before .before .before .before .before .before .before .before .before in
+    (s .pre .0 .slots-good, week-nine s (c .if7 .taken), search needs, small s .0))
+    (λ c κs. let s = c .before .before .before .before .before .before .before .before .before .before .before in
+    (s .pre .0 .plant-good, small s .0, c .line-row4 .ensures .most))
     inventory-row-requires
     returns-7
     line-row-requires-5

@@ -23,7 +23,8 @@ loop-again c =
     let a = c .before .before .before .before .before .args in (
       search needs,
       rw length-set (b .inv .1),
-      filled (b .row) (slotsOf (a .f) (a .slots .now) .sales (a .customer) (a .product)) (b .week) (c .sales .result) (search needs) (c .sales .ensures .0) (b .inv .2),
+      filled (b .row) (slotsOf (a .f) (a .slots .now) .sales (a .customer) (a .product)) (b .week) (c .sales .result) (search needs)
+          (c .sales .ensures .0) (b .inv .2),
     )
 
 returns : tie.Need-returns Inv-loop μ-loop

@@ -48,7 +48,8 @@ size-most c =
 
 -- the output has room for all rows
 fits : (c : tie.After-columns-of Inv-loop μ-loop)
-    → c .before .before .width-of .result * c .columns-of .result * c .before .rows-of .result ≤ length (c .before .before .before .before .before .before .args .out .now)
+    → c .before .before .width-of .result * c .columns-of .result * c .before .rows-of .result
+    ≤ length (c .before .before .before .before .before .before .args .out .now)
 fits c =
     let s = c .before .before .before .before .before .before in
     let a = s .args in
@@ -66,7 +67,8 @@ next-fits : (c : tie.In-loop Inv-loop μ-loop) → let d = c .before .before in
     c .before .loop .p + d .before .before .width-of .result * d .columns-of .result ≤ length (c .before .loop .out)
 next-fits c =
     let d = c .before .before in
-    omega (arith, room (d .before .before .width-of .result * d .columns-of .result) (c .loop-test .taken), fits d, c .before .loop .inv .1, c .before .loop .inv .2)
+    let more = room (d .before .before .width-of .result * d .columns-of .result) (c .loop-test .taken) in
+    omega (arith, more, fits d, c .before .loop .inv .1, c .before .loop .inv .2)
 
 row-of-requires : tie.Need-row-of-requires Inv-loop μ-loop
 row-of-requires c κs =
@@ -87,7 +89,8 @@ loop-again c =
     let shown : Shows columns (rowIn (a .f) x (a .place) (b .loop .r)) (row .result) = rw (d .columns-of .ensures .0) (row .ensures .0) in
     let stored =
     c .before .before .write-all .ensures
-    ∙ ap (store _ 0) (row-bytes width columns (row .result) (rowIn (a .f) x (a .place) (b .loop .r)) (omega (arith, row .ensures .1, d .columns-of .ensures .1)) shown) in
+    ∙ ap (store _ 0) (row-bytes width columns (row .result) (rowIn (a .f) x (a .place) (b .loop .r))
+    (omega (arith, row .ensures .1, d .columns-of .ensures .1)) shown) in
     let whole =
     ap (putMid (b .loop .p) (length (b .loop .out) - b .loop .p) (b .loop .out)) stored
     ∙ part-store (b .loop .out) (b .loop .p) (bytes (b .loop .r)) (omega (arith, next-fits (c .before .before .before .before .before .before))) in
@@ -116,7 +119,8 @@ returns c =
     ((λ u. joinBelow (all u) (λ q. encode (width u) (columns u) (rowIn (a .f) x (a .place) q))) ∙ body-is (a .f) x (a .place) (s .pre .2))
 
 -- the part of the row that is lent has the columns' length
-lent : (c : tie.After-row Inv-loop μ-loop) → length (take (c .before .before .before .before .before .columns-of .result) (c .before .before .row-of .result)) ≡ c .before .before .before .before .before .columns-of .result
+lent : (c : tie.After-row Inv-loop μ-loop) → let columns = c .before .before .before .before .before .columns-of .result in
+    length (take columns (c .before .before .row-of .result)) ≡ columns
 lent c = length-take-le _ _ (omega (arith, c .before .before .row-of .ensures .1, c .before .before .before .before .before .columns-of .ensures .1))
 
 write-all-requires : tie.Need-write-all-requires Inv-loop μ-loop

@@ -18,4 +18,8 @@ returns c =
 
 pub least-storage-spec : {M : Type 1} → statement M
 least-storage-spec =
-    tie.close (tie.spec (λ c. search needs) (λ c κs. held4 (c .before .pre .0) 8 (search needs) {m = 2 * c .before .args .f .products} (omega arith) (omega arith)) returns)
+    tie.close
+    (tie.spec
+    (λ c. search needs)
+    (λ c κs. held4 (c .before .pre .0) 8 (search needs) {m = 2 * c .before .args .f .products} (omega arith) (omega arith))
+    returns)

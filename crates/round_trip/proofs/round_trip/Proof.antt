@@ -44,7 +44,9 @@ abbrev profit : tie.After-known-told3 → Profit
 profit c = c .before .before .before .before .before .before .before .enum-told .given .0 .0
 
 passed : (c : tie.After-known-told3) → checkOf (plant c) (plan c) ≡ check.Passed (profit c)
-passed c = sym (c .before .before .before .before .before .before .before .before .before .check-plan .ensures) ∙ c .before .before .before .before .before .before .before .enum-told .given .1
+passed c =
+    sym (c .before .before .before .before .before .before .before .before .before .check-plan .ensures)
+    ∙ c .before .before .before .before .before .before .before .enum-told .given .1
 
 returned : (c : tie.After-known-told3) → writtenIn (slotAnswer (plant c) (plan c)) (slots c) ≡ written.Length (count c)
 returned c = sym (c .before .before .before .before .before .slot-return .ensures .0) ∙ c .before .n3 .given .1

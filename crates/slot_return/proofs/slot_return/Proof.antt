@@ -12,7 +12,8 @@ use Rattle.plan_file.proofs.PlanReads.{plan-shape}
 use Rattle.slot_file.specs.File.{slotFile}
 use Rattle.rules.specs.declared.Verdict.the-variants as verdict
 use Rattle.rules.specs.Verdict.{verdictOf}
-use Rattle.calls.specs.Answer.{bytes, slotAnswer, writtenIn, outputAfter}
+use Rattle.calls.specs.Answer.{bytes, slotAnswer}
+use Rattle.calls.proofs.Output.{refused-as}
 use Rattle.slot_return.specs.Shown.{shownIn}
 use Rattle.slot_return.proofs.ShownFile.{shown-is}
 use Rattle.slot_return.proofs.PassedPlan.{passed-ordered}
@@ -51,29 +52,26 @@ return-slots-requires c κs =
     passed-ordered _ (start d .args .plant .now) _ _ (λ i. bytes i .fits) (plan-good (c .before .before .before .before)) (passed (c .before))
 
 returns : tie.Need-returns
-unfolding slotAnswer writtenIn outputAfter
+unfolding slotAnswer
 returns c =
     let e = sym (c .before .before .before .before .before .before .before .plant-form .ensures) ∙ c .before .before .before .before .before .n .given .1 in
-    let r = c .before .before .refuse .ensures in
-    (rw e (r .0), rw e (r .1))
+    refused-as (rw e) (c .before .before .refuse .ensures)
 
 returns-2 : tie.Need-returns-2
-unfolding slotAnswer writtenIn outputAfter
+unfolding slotAnswer
 returns-2 c =
     let p = plant-good (c .before .before .before .before .before .before .before .before) in
     let e = sym (c .before .before .before .before .before .before .before .plan-form .ensures) ∙ c .before .before .before .before .before .n2 .given .1 in
-    let r = c .before .before .refuse2 .ensures in
-    (rw (p, e) (r .0), rw (p, e) (r .1))
+    refused-as (rw (p, e)) (c .before .before .refuse2 .ensures)
 
 returns-3 : tie.Need-returns-3
-unfolding slotAnswer writtenIn outputAfter
+unfolding slotAnswer
 returns-3 c =
     let k = c .before .before .before .before .before .before .before .before in
     let p = plant-good (k .before .before .before) in
     let q = plan-good k in
     let e = broken (c .before .before .before .before) in
-    let r = c .before .before .refuse3 .ensures in
-    (rw (p, q, e) (r .0), rw (p, q, e) (r .1))
+    refused-as (rw (p, q, e)) (c .before .before .refuse3 .ensures)
 
 returns-4 : tie.Need-returns-4
 unfolding slotAnswer

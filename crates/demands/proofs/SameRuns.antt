@@ -1,13 +1,12 @@
 -- A run depends only on the slots of its weeks and on the sales of its customers, products and weeks. Assumes nothing.
 use Prim.Native.Nat.{ℕ, zero, suc, _+_, _*_, _-_, _≤_, _<_}
 use mathlib.Core.Path.{_≡_, refl, sym, ap, _∙_}
-use mathlib.Core.Bool.{Bool, true, false, not}
+use mathlib.Core.Bool.{not}
 use mathlib.Core.List.{List, [], _∷_}
 use native.Mathlib.Omega.{arith}
-use lib.ListN.{getD, set}
 use lib.Dec.{leb}
 use lib.IntN.{ℤ, pos, _+ℤ_, _-ℤ_}
-use Rattle.mathematics.specs.Below.{sumBelow, allBelow}
+use Rattle.mathematics.specs.Below.{sumBelow}
 use Rattle.mathematics.proofs.Below.{sum-ext}
 use Rattle.plant_file.specs.Plant.{Plant}
 use Rattle.plan_file.specs.Plan.{Plan, SamePlan}
@@ -17,22 +16,9 @@ use Rattle.machine.specs.declared.Step.{Step}
 use Rattle.machine.specs.State.{backlogOf, inventoryOf, withInventory, withBacklog, withProfit, updateRow, updateRows, andThen, stopIf, continues}
 use Rattle.machine.specs.Machine.{soldOf, salesDue, backlogAfter, salesInStock, inventoryAfter, storageKept, booked, weekDone, weekEnd, weekBegin}
 use Rattle.machine.specs.Run.{runSlots, runWeek, runWeeks, run, ranWeek, slotsDone, after, opening}
+use Rattle.machine.proofs.Flat.{all-ext, row-ext}
 use Rattle.model.specs.RunTables.{orderOfSlots, isMounted, whoRan, whoFirst, whoLast, neighbours, placesFrom, minutesOf, lineTables, runTables}
 use Rattle.model.specs.Match.{shapeOfPlant}
-
-all-ext : (n : ℕ) (p q : ℕ → Bool) → ((i : ℕ) → i < n → p i ≡ q i) → allBelow n p ≡ allBelow n q
-all-ext zero p q h = refl
-all-ext (suc n) p q h =
-    let a : allBelow n p ≡ allBelow n q = all-ext n p q (λ i l. h i (omega arith)) in
-    let b : p n ≡ q n = h n (omega arith) in
-    cc
-
-row-ext : (base n : ℕ) (f g : ℕ → ℕ → ℕ) (l : List ℕ) → ((i v : ℕ) → i < n → f i v ≡ g i v) → updateRow base n f l ≡ updateRow base n g l
-row-ext base zero f g l h = refl
-row-ext base (suc n) f g l h =
-    let a : updateRow base n f l ≡ updateRow base n g l = row-ext base n f g l (λ i v k. h i v (omega arith)) in
-    let b : f n (getD l (base + n) 0) ≡ g n (getD l (base + n) 0) = h n (getD l (base + n) 0) (omega arith) in
-    λ u. set (a u) (base + n) (b u)
 
 rows-ext : (m n : ℕ) (f g : ℕ → ℕ → ℕ → ℕ) (l : List ℕ) → ((c i v : ℕ) → c < m → i < n → f c i v ≡ g c i v)
     → updateRows m n f l ≡ updateRows m n g l

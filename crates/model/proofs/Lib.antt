@@ -1,4 +1,3 @@
-pub mod Updates
 pub mod States
 pub mod Grids
 pub mod Money

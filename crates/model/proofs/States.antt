@@ -18,7 +18,7 @@ use Rattle.machine.specs.declared.State.{State}
 use Rattle.machine.specs.State.{inventoryOf, backlogOf, hasRun, withInventory, withBacklog, withWeek, withProfit, withMounted}
 use Rattle.machine.specs.Machine.{weekBegin, clockAfter, slotDone, soldOf, inventoryAfter, backlogAfter, booked, weekDone}
 use Rattle.machine.specs.Run.{opening}
-use Rattle.model.proofs.Updates.{row-length, row-from-zero, rows-length, rows-at}
+use Rattle.machine.proofs.Flat.{row-length, row-first, rows-length, rows-at}
 
 -- the lengths of the struct's arrays
 pub record Lengths (s : State) : Type 0 where
@@ -36,8 +36,8 @@ pub opening-lengths : (P : Plant) → Lengths (opening P)
 unfolding opening
 opening-lengths P =
     record {
-      inventory = row-length 0 (λ i _. P .openingInventory i) (replicate 16 0) (P .products);
-      backlog = rows-length (P .products) (λ c i _. P .openingBacklog c i) (replicate 128 0) (P .customers);
+      inventory = row-length 0 (P .products) (λ i _. P .openingInventory i) (replicate 16 0);
+      backlog = rows-length (P .customers) (P .products) (λ c i _. P .openingBacklog c i) (replicate 128 0);
       ran = refl;
     }
 
@@ -58,8 +58,8 @@ pub week-lengths : (P : Plant) (w : ℕ) (sales : ℕ → ℕ → ℕ) {s : Stat
 unfolding weekDone booked backlogAfter inventoryAfter withInventory withBacklog withProfit
 week-lengths P w sales {s} h =
     record {
-      inventory = row-length 0 (λ i stock. stock - soldOf P sales i) (s .inventory) (P .products) ∙ h .inventory;
-      backlog = rows-length (P .products) (λ c i owed. owed + P .demand c i w - sales c i) (s .backlog) (P .customers) ∙ h .backlog;
+      inventory = row-length 0 (P .products) (λ i stock. stock - soldOf P sales i) (s .inventory) ∙ h .inventory;
+      backlog = rows-length (P .customers) (P .products) (λ c i owed. owed + P .demand c i w - sales c i) (s .backlog) ∙ h .backlog;
       ran = h .ran;
     }
 
@@ -70,12 +70,12 @@ module _ (P : Plant) (R : PlantRanges P) where
 
   pub opening-inventory : (i : ℕ) → i < P .products → inventoryOf (opening P) i ≡ P .openingInventory i
   unfolding opening inventoryOf
-  opening-inventory i l = row-from-zero (λ i _. P .openingInventory i) (replicate 16 0) (P .products) i (R .products-most) l
+  opening-inventory i l = row-first (P .products) (λ i _. P .openingInventory i) (replicate 16 0) (R .products-most) i l
 
   pub opening-backlog : (c i : ℕ) → c < P .customers → i < P .products → backlogOf (P .products) (opening P) c i ≡ P .openingBacklog c i
   unfolding opening backlogOf
   opening-backlog c i k l =
-      rows-at (P .products) (λ c i _. P .openingBacklog c i) (replicate 128 0) (P .customers) c i table-fits k l
+      rows-at (P .customers) (P .products) (λ c i _. P .openingBacklog c i) (replicate 128 0) table-fits c i k l
 
   pub begin-ran : (s : State) (i : ℕ) → i < P .products → hasRun (weekBegin s) i ≡ false
   unfolding weekBegin withWeek hasRun
@@ -107,14 +107,13 @@ module _ (P : Plant) (R : PlantRanges P) where
     pub week-inventory : (i : ℕ) → i < P .products → inventoryOf (weekDone P w sales s) i ≡ inventoryOf s i - soldOf P sales i
     unfolding weekDone booked backlogAfter inventoryAfter withInventory withBacklog withProfit inventoryOf
     week-inventory i l =
-        row-from-zero (λ i stock. stock - soldOf P sales i) (s .inventory) (P .products) i (omega (arith, h .inventory, R .products-most)) l
+        row-first (P .products) (λ i stock. stock - soldOf P sales i) (s .inventory) (omega (arith, h .inventory, R .products-most)) i l
 
     pub week-backlog : (c i : ℕ) → c < P .customers → i < P .products
         → backlogOf (P .products) (weekDone P w sales s) c i ≡ backlogOf (P .products) s c i + P .demand c i w - sales c i
     unfolding weekDone booked backlogAfter inventoryAfter withInventory withBacklog withProfit backlogOf
     week-backlog c i k l =
-        rows-at (P .products) (λ c i owed. owed + P .demand c i w - sales c i) (s .backlog) (P .customers) c i
-        (omega (arith, h .backlog, table-fits)) k l
+        rows-at (P .customers) (P .products) (λ c i owed. owed + P .demand c i w - sales c i) (s .backlog) (omega (arith, h .backlog, table-fits)) c i k l
 
 -- the profit, by the cells after the week
 pub week-profit : (P : Plant) (w : ℕ) (sales : ℕ → ℕ → ℕ) (s : State) → weekDone P w sales s .profit .0

@@ -139,8 +139,8 @@ fn lone_ring() -> Fact {
         backlog_costs: vec![2, 3, 3],
         inventory_costs: vec![1, 1, 1],
         storage: vec![Storage { least: 0, greatest: 2_000_000 }; 3],
-        opening_stock: vec![0; 3],
-        opening_owed: vec![0; 3],
+        opening_inventory: vec![0; 3],
+        opening_backlog: vec![0; 3],
         ..small::plant()
     };
     let mut plan = Plan::zeros(sizes);

@@ -68,14 +68,14 @@ pub fn fill_owed(plant: &Plant, plan: &mut Plan) {
     let sizes = plant.sizes;
     for customer in 0..sizes.customers {
         for product in 0..sizes.products {
-            let mut owed = plant.opening_owed[sizes.customer_product(customer, product)];
+            let mut backlog = plant.opening_backlog[sizes.customer_product(customer, product)];
             for week in 0..sizes.weeks {
                 let index = sizes.customer_product_week(customer, product, week);
-                owed = fitted(
-                    i128::from(owed) + i128::from(plant.demand[index])
+                backlog = fitted(
+                    i128::from(backlog) + i128::from(plant.demand[index])
                         - i128::from(plan.sales[index]),
                 );
-                plan.owed[index] = owed;
+                plan.backlog[index] = backlog;
             }
         }
     }
@@ -85,15 +85,15 @@ pub fn fill_owed(plant: &Plant, plan: &mut Plan) {
 pub fn fill_stock(plant: &Plant, plan: &mut Plan) {
     let sizes = plant.sizes;
     for product in 0..sizes.products {
-        let mut stock = plant.opening_stock[product];
+        let mut inventory = plant.opening_inventory[product];
         for week in 0..sizes.weeks {
             let index = sizes.week_product(week, product);
             let sold: i128 = (0..sizes.customers)
                 .map(|customer| sizes.customer_product_week(customer, product, week))
                 .map(|place| i128::from(plan.sales[place]))
                 .sum();
-            stock = fitted(i128::from(stock) + i128::from(plan.grams[index]) - sold);
-            plan.stock[index] = stock;
+            inventory = fitted(i128::from(inventory) + i128::from(plan.grams[index]) - sold);
+            plan.inventory[index] = inventory;
         }
     }
 }

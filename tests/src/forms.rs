@@ -34,7 +34,7 @@ pub fn read_plant(file: &[u8]) -> Result<Plant, Refusal> {
     ];
     refuse_unless(have_lengths(&bodies, &lengths), 4)?;
 
-    let (stock, owed) = bodies[9].split_at(4 * sizes.products);
+    let (inventory, backlog) = bodies[9].split_at(4 * sizes.products);
     let times = twos(bodies[10]);
     let plant = Plant {
         sizes,
@@ -49,8 +49,8 @@ pub fn read_plant(file: &[u8]) -> Result<Plant, Refusal> {
             .chunks_exact(2)
             .map(|limits| Storage { least: limits[0], greatest: limits[1] })
             .collect(),
-        opening_stock: fours(stock),
-        opening_owed: fours(owed),
+        opening_inventory: fours(inventory),
+        opening_backlog: fours(backlog),
         shortest_run: times[0],
         week_minutes: times[1],
     };
@@ -90,8 +90,8 @@ pub fn read_plan(plant: &Plant, file: &[u8]) -> Result<Plan, Refusal> {
         minutes: twos(bodies[6]),
         grams: fours(bodies[7]),
         sales: fours(bodies[8]),
-        stock: fours(bodies[9]),
-        owed: fours(bodies[10]),
+        inventory: fours(bodies[9]),
+        backlog: fours(bodies[10]),
         profit: i64::from_le_bytes(bodies[11].try_into().expect("a body of 8 bytes")),
     })
 }
@@ -164,8 +164,8 @@ fn in_range(plant: &Plant) -> bool {
             .storage
             .iter()
             .all(|limits| limits.least <= limits.greatest && limits.greatest <= 4_000_000_000)
-        && at_most(&plant.opening_stock, 4_000_000_000)
-        && at_most(&plant.opening_owed, 100_000_000)
+        && at_most(&plant.opening_inventory, 4_000_000_000)
+        && at_most(&plant.opening_backlog, 100_000_000)
         && 1 <= plant.shortest_run
         && plant.shortest_run <= plant.week_minutes
         && plant.week_minutes <= 10_080

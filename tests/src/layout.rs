@@ -70,7 +70,7 @@ impl Plant {
     pub fn bodies(&self) -> Vec<Vec<u8>> {
         let sizes = [self.sizes.products, self.sizes.customers, self.sizes.weeks];
         let storage = self.storage.iter().flat_map(|limits| [limits.least, limits.greatest]);
-        let openings = self.opening_stock.iter().chain(&self.opening_owed).copied();
+        let openings = self.opening_inventory.iter().chain(&self.opening_backlog).copied();
         vec![
             sizes.map(|size| u8::try_from(size).expect("a size of one byte")).to_vec(),
             by_four(self.rates.iter().copied()),
@@ -104,8 +104,8 @@ impl Plan {
             by_two(self.minutes.iter().copied()),
             by_four(self.grams.iter().copied()),
             by_four(self.sales.iter().copied()),
-            by_four(self.stock.iter().copied()),
-            by_four(self.owed.iter().copied()),
+            by_four(self.inventory.iter().copied()),
+            by_four(self.backlog.iter().copied()),
             self.profit.to_le_bytes().to_vec(),
         ]
     }

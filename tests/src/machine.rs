@@ -12,9 +12,9 @@ pub struct Machine<'plant> {
     /// Whether each product ran this week.
     pub ran: Vec<bool>,
     /// Grams, by product.
-    pub stock: Vec<u64>,
+    pub inventory: Vec<u64>,
     /// Grams, by customer and product.
-    pub owed: Vec<u64>,
+    pub backlog: Vec<u64>,
     /// In thousandths of a cent.
     pub purse: i64,
 }
@@ -26,8 +26,8 @@ impl<'plant> Machine<'plant> {
             mounted: None,
             clock: 0,
             ran: vec![false; plant.sizes.products],
-            stock: plant.opening_stock.iter().copied().map(u64::from).collect(),
-            owed: plant.opening_owed.iter().copied().map(u64::from).collect(),
+            inventory: plant.opening_inventory.iter().copied().map(u64::from).collect(),
+            backlog: plant.opening_backlog.iter().copied().map(u64::from).collect(),
             purse: 0,
         }
     }
@@ -55,7 +55,7 @@ impl<'plant> Machine<'plant> {
         if self.clock > u64::from(self.plant.week_minutes) {
             return Err(36);
         }
-        self.stock[product] += u64::from(self.plant.rates[product]) * u64::from(slot.minutes);
+        self.inventory[product] += u64::from(self.plant.rates[product]) * u64::from(slot.minutes);
         self.ran[product] = true;
         self.mounted = Some(product);
         Ok(())
@@ -72,13 +72,13 @@ impl<'plant> Machine<'plant> {
                 let place = plant.sizes.customer_product_week(customer, product, week);
                 let pair = plant.sizes.customer_product(customer, product);
                 let sale = u64::from(sales[place]);
-                let asked = self.owed[pair] + u64::from(plant.demand[place]);
+                let asked = self.backlog[pair] + u64::from(plant.demand[place]);
                 if sale > asked {
                     return Err(38);
                 }
-                self.owed[pair] = asked - sale;
+                self.backlog[pair] = asked - sale;
                 self.purse += worth(plant.prices[pair], sale);
-                self.purse -= worth(plant.backlog_costs[pair], self.owed[pair]);
+                self.purse -= worth(plant.backlog_costs[pair], self.backlog[pair]);
             }
         }
         for product in 0..products {
@@ -86,18 +86,18 @@ impl<'plant> Machine<'plant> {
                 .map(|customer| plant.sizes.customer_product_week(customer, product, week))
                 .map(|place| u64::from(sales[place]))
                 .sum();
-            if sold > self.stock[product] {
+            if sold > self.inventory[product] {
                 return Err(39);
             }
-            self.stock[product] -= sold;
+            self.inventory[product] -= sold;
         }
         for product in 0..products {
             let limits = plant.storage[product];
-            let stock = self.stock[product];
-            if stock < u64::from(limits.least) || stock > u64::from(limits.greatest) {
+            let inventory = self.inventory[product];
+            if inventory < u64::from(limits.least) || inventory > u64::from(limits.greatest) {
                 return Err(40);
             }
-            self.purse -= worth(plant.inventory_costs[product], stock);
+            self.purse -= worth(plant.inventory_costs[product], inventory);
         }
         Ok(())
     }
@@ -162,10 +162,11 @@ fn record_slots(plan: &mut Plan, plant: &Plant, week: usize, mounted: Option<usi
 fn record_balance(plan: &mut Plan, machine: &Machine, week: usize) {
     let sizes = machine.plant.sizes;
     for product in 0..sizes.products {
-        plan.stock[sizes.week_product(week, product)] = four_bytes(machine.stock[product]);
+        plan.inventory[sizes.week_product(week, product)] = four_bytes(machine.inventory[product]);
         for customer in 0..sizes.customers {
-            let owed = machine.owed[sizes.customer_product(customer, product)];
-            plan.owed[sizes.customer_product_week(customer, product, week)] = four_bytes(owed);
+            let backlog = machine.backlog[sizes.customer_product(customer, product)];
+            plan.backlog[sizes.customer_product_week(customer, product, week)] =
+                four_bytes(backlog);
         }
     }
 }

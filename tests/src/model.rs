@@ -92,9 +92,9 @@ pub struct Plant {
     /// By product.
     pub storage: Vec<Storage>,
     /// Grams, by product.
-    pub opening_stock: Vec<u32>,
+    pub opening_inventory: Vec<u32>,
     /// Grams, by customer and product.
-    pub opening_owed: Vec<u32>,
+    pub opening_backlog: Vec<u32>,
     pub shortest_run: u16,
     pub week_minutes: u16,
 }
@@ -121,9 +121,9 @@ pub struct Plan {
     /// S: grams sold, by customer, product and week.
     pub sales: Vec<u32>,
     /// V: grams in stock after the week, by week and product.
-    pub stock: Vec<u32>,
+    pub inventory: Vec<u32>,
     /// Δ: grams owed after the week, by customer, product and week.
-    pub owed: Vec<u32>,
+    pub backlog: Vec<u32>,
     /// In thousandths of a cent.
     pub profit: i64,
 }
@@ -144,8 +144,8 @@ impl Plan {
             minutes: vec![0; by_product],
             grams: vec![0; by_product],
             sales: vec![0; by_customer],
-            stock: vec![0; by_product],
-            owed: vec![0; by_customer],
+            inventory: vec![0; by_product],
+            backlog: vec![0; by_customer],
             profit: 0,
         }
     }

@@ -108,8 +108,8 @@ fn plant_tables(plant: &mut Plant) -> [(&mut [u32], u32, u32); 8] {
         (&mut plant.prices, 0, 100_000),
         (&mut plant.backlog_costs, 0, 100_000),
         (&mut plant.inventory_costs, 0, 100_000),
-        (&mut plant.opening_stock, 0, 4_000_000_000),
-        (&mut plant.opening_owed, 0, 100_000_000),
+        (&mut plant.opening_inventory, 0, 4_000_000_000),
+        (&mut plant.opening_backlog, 0, 100_000_000),
     ]
 }
 
@@ -164,8 +164,8 @@ fn change_sizes(random: &mut Random, plant: &mut Plant) {
         plant.backlog_costs.resize(customers * products, 0);
         plant.inventory_costs.resize(products, 0);
         plant.storage.resize(products, Storage { least: 0, greatest: 0 });
-        plant.opening_stock.resize(products, 0);
-        plant.opening_owed.resize(customers * products, 0);
+        plant.opening_inventory.resize(products, 0);
+        plant.opening_backlog.resize(customers * products, 0);
     }
 }
 
@@ -266,7 +266,7 @@ fn change_minutes(random: &mut Random, plant: &mut Plant, slots: &mut Slots) {
 fn sell_unasked(random: &mut Random, plant: &mut Plant, slots: &mut Slots) {
     let plan = following::plan(plant, slots);
     let place = random.below(slots.sales.len());
-    let asked = slots.sales[place].saturating_add(plan.owed[place]);
+    let asked = slots.sales[place].saturating_add(plan.backlog[place]);
     slots.sales[place] = random.pick(&[asked.saturating_add(1), u32::MAX, asked]);
 }
 
@@ -275,12 +275,12 @@ fn sell_out(random: &mut Random, plant: &mut Plant, slots: &mut Slots) {
     let plan = following::plan(plant, slots);
     let week = random.below(plant.sizes.weeks);
     let product = random.below(plant.sizes.products);
-    let stock = plan.stock[plant.sizes.week_product(week, product)];
+    let inventory = plan.inventory[plant.sizes.week_product(week, product)];
     let customer = random.below(plant.sizes.customers);
     let place = plant.sizes.customer_product_week(customer, product, week);
     // By one more than there is, if as much is asked for.
-    let more = stock.saturating_add(1);
-    let asked = plan.owed[place];
+    let more = inventory.saturating_add(1);
+    let asked = plan.backlog[place];
     slots.sales[place] = slots.sales[place].saturating_add(more.min(asked));
 }
 
@@ -296,13 +296,13 @@ fn tighten_storage(random: &mut Random, plant: &mut Plant, slots: &mut Slots) {
     let plan = following::plan(plant, slots);
     let week = random.below(plant.sizes.weeks);
     let product = random.below(plant.sizes.products);
-    let stock = plan.stock[plant.sizes.week_product(week, product)];
+    let inventory = plan.inventory[plant.sizes.week_product(week, product)];
     let limits = &mut plant.storage[product];
     if random.one_in(2) {
-        let greatest = random.pick(&[stock, stock.saturating_sub(1)]);
+        let greatest = random.pick(&[inventory, inventory.saturating_sub(1)]);
         limits.greatest = greatest.clamp(limits.least, 4_000_000_000);
     } else {
-        let least = random.pick(&[stock, stock.saturating_add(1)]);
+        let least = random.pick(&[inventory, inventory.saturating_add(1)]);
         limits.least = least.min(limits.greatest);
     }
 }
@@ -358,8 +358,8 @@ fn change_one_number(random: &mut Random, _: &mut Plant, _: &Slots, plan: &mut P
         }
         2 => &mut plan.grams,
         3 => &mut plan.sales,
-        4 => &mut plan.stock,
-        _ => &mut plan.owed,
+        4 => &mut plan.inventory,
+        _ => &mut plan.backlog,
     };
     let place = random.below(table.len());
     table[place] = other(random, table[place]);
@@ -688,7 +688,7 @@ fn change_owed_onward(random: &mut Random, plant: &mut Plant, _: &Slots, plan: &
     let by = random.pick(&[1, u32::MAX]);
     for week in random.below(sizes.weeks)..sizes.weeks {
         let index = sizes.customer_product_week(customer, product, week);
-        plan.owed[index] = plan.owed[index].wrapping_add(by);
+        plan.backlog[index] = plan.backlog[index].wrapping_add(by);
     }
     following::fill_profit(plant, plan);
 }
@@ -700,7 +700,7 @@ fn change_stock_onward(random: &mut Random, plant: &mut Plant, _: &Slots, plan: 
     let by = random.pick(&[1, u32::MAX]);
     for week in random.below(sizes.weeks)..sizes.weeks {
         let index = sizes.week_product(week, product);
-        plan.stock[index] = plan.stock[index].wrapping_add(by);
+        plan.inventory[index] = plan.inventory[index].wrapping_add(by);
     }
     following::fill_profit(plant, plan);
 }
@@ -712,13 +712,13 @@ fn wrap_balance(random: &mut Random, plant: &mut Plant, _: &Slots, plan: &mut Pl
     let product = random.below(sizes.products);
     let week = random.below(sizes.weeks);
     let index = sizes.customer_product_week(customer, product, week);
-    let by = random.pick(&[1, plan.stock[sizes.week_product(week, product)].saturating_add(1)]);
+    let by = random.pick(&[1, plan.inventory[sizes.week_product(week, product)].saturating_add(1)]);
     plan.sales[index] = plan.sales[index].wrapping_add(by);
     for week in week..sizes.weeks {
         let index = sizes.customer_product_week(customer, product, week);
-        plan.owed[index] = plan.owed[index].wrapping_sub(by);
+        plan.backlog[index] = plan.backlog[index].wrapping_sub(by);
         let index = sizes.week_product(week, product);
-        plan.stock[index] = plan.stock[index].wrapping_sub(by);
+        plan.inventory[index] = plan.inventory[index].wrapping_sub(by);
     }
     following::fill_profit(plant, plan);
 }

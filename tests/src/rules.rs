@@ -139,12 +139,12 @@ pub fn backlog_balances(plant: &Plant, plan: &Plan) -> bool {
             all(sizes.products, |product| {
                 let index = sizes.customer_product_week(customer, product, week);
                 let before = match week.checked_sub(1) {
-                    None => plant.opening_owed[sizes.customer_product(customer, product)],
+                    None => plant.opening_backlog[sizes.customer_product(customer, product)],
                     Some(before) => {
-                        plan.owed[sizes.customer_product_week(customer, product, before)]
+                        plan.backlog[sizes.customer_product_week(customer, product, before)]
                     }
                 };
-                number(plan.owed[index])
+                number(plan.backlog[index])
                     == number(before) + number(plant.demand[index]) - number(plan.sales[index])
             })
         })
@@ -158,13 +158,13 @@ pub fn inventory_balances(plant: &Plant, plan: &Plan) -> bool {
         all(sizes.products, |product| {
             let index = sizes.week_product(week, product);
             let before = match week.checked_sub(1) {
-                None => plant.opening_stock[product],
-                Some(before) => plan.stock[sizes.week_product(before, product)],
+                None => plant.opening_inventory[product],
+                Some(before) => plan.inventory[sizes.week_product(before, product)],
             };
             let sold = sum(sizes.customers, |customer| {
                 number(plan.sales[sizes.customer_product_week(customer, product, week)])
             });
-            number(plan.stock[index]) == number(before) + number(plan.grams[index]) - sold
+            number(plan.inventory[index]) == number(before) + number(plan.grams[index]) - sold
         })
     })
 }
@@ -176,7 +176,7 @@ pub fn inventory_within_storage(plant: &Plant, plan: &Plan) -> bool {
         all(sizes.products, |product| {
             let limits = plant.storage[product];
             (limits.least..=limits.greatest)
-                .contains(&plan.stock[sizes.week_product(week, product)])
+                .contains(&plan.inventory[sizes.week_product(week, product)])
         })
     })
 }
@@ -192,10 +192,10 @@ pub fn profit(plant: &Plant, plan: &Plan) -> i128 {
     let sizes = plant.sizes;
     sum(sizes.weeks, |week| {
         let sales = by_customer(sizes, week, &plant.prices, &plan.sales);
-        let backlog = by_customer(sizes, week, &plant.backlog_costs, &plan.owed);
+        let backlog = by_customer(sizes, week, &plant.backlog_costs, &plan.backlog);
         let inventory = sum(sizes.products, |product| {
             number(plant.inventory_costs[product])
-                * number(plan.stock[sizes.week_product(week, product)])
+                * number(plan.inventory[sizes.week_product(week, product)])
         });
         sales - 1000 * changeovers(sizes, plan, week, &plant.changeover_cents) - backlog - inventory
     })

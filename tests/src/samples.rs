@@ -103,7 +103,7 @@ pub fn plans() -> Vec<Sample> {
     add(12, "wrapped", changed(&parts, wrap_back).bytes());
 
     add(13, "contents-only", Parts::new(Kind::Plan, 21, &vec![Vec::new(); 12]).bytes());
-    add(13, "length", changed(&right, |plan| plan.owed.push(0)).encode());
+    add(13, "length", changed(&right, |plan| plan.backlog.push(0)).encode());
 
     add(14, "ran", changed(&right, |plan| plan.ran[0] = 2).encode());
     let opening_changeover = changed(&right, |plan| plan.opening_changeovers[7] = 2);
@@ -170,8 +170,8 @@ pub fn least_plant(sizes: Sizes) -> Plant {
         backlog_costs: vec![0; by_customer],
         inventory_costs: vec![0; sizes.products],
         storage: vec![Storage { least: 0, greatest: 0 }; sizes.products],
-        opening_stock: vec![0; sizes.products],
-        opening_owed: vec![0; by_customer],
+        opening_inventory: vec![0; sizes.products],
+        opening_backlog: vec![0; by_customer],
         shortest_run: 1,
         week_minutes: 1,
     }
@@ -193,8 +193,8 @@ pub fn greatest_plant() -> Plant {
     plant.backlog_costs.fill(100_000);
     plant.inventory_costs.fill(100_000);
     plant.storage.fill(Storage { least: 4_000_000_000, greatest: 4_000_000_000 });
-    plant.opening_stock.fill(4_000_000_000);
-    plant.opening_owed.fill(100_000_000);
+    plant.opening_inventory.fill(4_000_000_000);
+    plant.opening_backlog.fill(100_000_000);
     plant.shortest_run = 10_080;
     plant.week_minutes = 10_080;
     plant

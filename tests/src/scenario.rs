@@ -133,8 +133,8 @@ fn plant(random: &mut Random, sizes: Sizes) -> Plant {
         prices: numbers(random, by_customer, 0..=100_000),
         backlog_costs: numbers(random, by_customer, 0..=100_000),
         inventory_costs: numbers(random, sizes.products, 0..=100_000),
-        opening_stock: numbers(random, sizes.products, 0..=MOST_STORAGE as u32),
-        opening_owed: numbers(random, by_customer, 0..=100_000_000),
+        opening_inventory: numbers(random, sizes.products, 0..=MOST_STORAGE as u32),
+        opening_backlog: numbers(random, by_customer, 0..=100_000_000),
         shortest_run,
         week_minutes,
         ..samples::least_plant(sizes)
@@ -157,8 +157,8 @@ fn storage(random: &mut Random, least_stock: u64, greatest_stock: u64) -> Storag
 struct Schedule<'plant> {
     plant: &'plant Plant,
     mounted: Option<usize>,
-    stock: Vec<u64>,
-    owed: Vec<u64>,
+    inventory: Vec<u64>,
+    backlog: Vec<u64>,
     least_stock: Vec<u64>,
     greatest_stock: Vec<u64>,
     slots: Slots,
@@ -170,8 +170,8 @@ impl<'plant> Schedule<'plant> {
         Schedule {
             plant,
             mounted: None,
-            stock: plant.opening_stock.iter().copied().map(u64::from).collect(),
-            owed: plant.opening_owed.iter().copied().map(u64::from).collect(),
+            inventory: plant.opening_inventory.iter().copied().map(u64::from).collect(),
+            backlog: plant.opening_backlog.iter().copied().map(u64::from).collect(),
             least_stock: vec![u64::MAX; sizes.products],
             greatest_stock: vec![0; sizes.products],
             slots: Slots {
@@ -224,11 +224,11 @@ impl<'plant> Schedule<'plant> {
         let some = random.between(shortest, shortest.max(room / 4));
         let mut minutes = random.pick(&[shortest, some, some, some, any, room]);
         let made = |minutes| u64::from(plant.rates[product]) * minutes;
-        if self.stock[product] + made(minutes) > MOST_STORAGE {
+        if self.inventory[product] + made(minutes) > MOST_STORAGE {
             minutes = shortest;
         }
         *clock += changeover + minutes;
-        self.stock[product] += made(minutes);
+        self.inventory[product] += made(minutes);
         self.mounted = Some(product);
         self.slots.slots.push(Slot { product: product as u8, minutes: minutes as u16 });
         true
@@ -241,19 +241,19 @@ impl<'plant> Schedule<'plant> {
             for product in 0..sizes.products {
                 let place = sizes.customer_product_week(customer, product, week);
                 let pair = sizes.customer_product(customer, product);
-                let asked = self.owed[pair] + u64::from(self.plant.demand[place]);
-                let most = asked.min(self.stock[product]);
+                let asked = self.backlog[pair] + u64::from(self.plant.demand[place]);
+                let most = asked.min(self.inventory[product]);
                 let any = random.between(0, most);
                 let sale = random.pick(&[0, any, any, most, most]);
-                self.owed[pair] = asked - sale;
-                self.stock[product] -= sale;
+                self.backlog[pair] = asked - sale;
+                self.inventory[product] -= sale;
                 self.slots.sales[place] = sale as u32;
             }
         }
         for product in 0..sizes.products {
-            let stock = self.stock[product];
-            self.least_stock[product] = self.least_stock[product].min(stock);
-            self.greatest_stock[product] = self.greatest_stock[product].max(stock);
+            let inventory = self.inventory[product];
+            self.least_stock[product] = self.least_stock[product].min(inventory);
+            self.greatest_stock[product] = self.greatest_stock[product].max(inventory);
         }
     }
 }

@@ -14,8 +14,8 @@ pub fn plant() -> Plant {
         backlog_costs: vec![2, 3],
         inventory_costs: vec![1, 1],
         storage: vec![Storage { least: 0, greatest: 2_000_000 }; 2],
-        opening_stock: vec![0, 0],
-        opening_owed: vec![0, 0],
+        opening_inventory: vec![0, 0],
+        opening_backlog: vec![0, 0],
         shortest_run: 300,
         week_minutes: 10_080,
     }

@@ -315,7 +315,7 @@ fn three_products_have_six_orders() {
 #[test]
 fn two_products_two_weeks() {
     let mut plant = tiny_plant(2, 1, 2);
-    plant.opening_stock = vec![1, 0];
+    plant.opening_inventory = vec![1, 0];
     let (minutes, sales) = ([0, 1, 2], [0, 1]);
     let given = runs(&plant, &minutes, &sales);
     let (minutes, sales, grams) = (numbers(minutes), numbers(sales), numbers(0..=2));

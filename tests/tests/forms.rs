@@ -174,8 +174,8 @@ fn every_plant_number_has_its_range() {
         (4_000_000_000, |plant, value| {
             plant.storage[1] = Storage { least: value, greatest: value }
         }),
-        (4_000_000_000, |plant, value| plant.opening_stock[1] = value),
-        (100_000_000, |plant, value| plant.opening_owed[1] = value),
+        (4_000_000_000, |plant, value| plant.opening_inventory[1] = value),
+        (100_000_000, |plant, value| plant.opening_backlog[1] = value),
         (10_080, |plant, value| plant.week_minutes = value as u16),
     ];
     let least: [(u32, Change); 3] = [

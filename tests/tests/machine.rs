@@ -16,8 +16,8 @@ fn the_small_plant_runs() {
         minutes: vec![5000, 2000, 2000, 3000],
         grams: vec![500_000, 100_000, 200_000, 150_000],
         sales: vec![400_000, 300_000, 100_000, 150_000],
-        stock: vec![100_000, 0, 0, 0],
-        owed: vec![0, 0, 0, 50_000],
+        inventory: vec![100_000, 0, 0, 0],
+        backlog: vec![0, 0, 0, 50_000],
         profit: 8_650_000,
     };
     assert_eq!(run(&small::plant(), &small::slots()), Ok(tables));

@@ -51,14 +51,14 @@ fn examples() -> [(Refusal, (Plant, Plan)); 11] {
         (
             38,
             changed(|plant, plan| {
-                plan.owed[3] -= 1;
+                plan.backlog[3] -= 1;
                 following::fill_profit(plant, plan);
             }),
         ),
         (
             39,
             changed(|plant, plan| {
-                plan.stock[2] += 1;
+                plan.inventory[2] += 1;
                 following::fill_profit(plant, plan);
             }),
         ),

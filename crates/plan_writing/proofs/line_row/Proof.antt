@@ -33,7 +33,8 @@ first-known c κs =
     let s = c .before .before .before .before in
     let a = s .args in
     let some = some-slot (a .f) (a .slots .now) (a .week) (s .pre .0) (s .pre .1) in
-    let known = slot-known (a .f) (a .slots .now) (a .week) (s .pre .0) (s .pre .1) (slotsBefore (a .slots .now) (a .week)) 0 (omega arith) (omega (arith, some)) in
+    let known = slot-known (a .f) (a .slots .now) (a .week) (s .pre .0) (s .pre .1) (slotsBefore (a .slots .now) (a .week)) 0 (omega arith)
+    (omega (arith, some)) in
     (s .pre .0, omega (arith, known, c .slot-before .ensures, c .before .before .week-start .ensures .0))
 
 loop-holds : tie.Need-loop-holds Inv-loop μ-loop
@@ -53,12 +54,14 @@ slot-there c κs =
     (s .pre .0, slot-known (a .f) (a .slots .now) (a .week) (s .pre .0) (s .pre .1) _ (b .k) first (omega (arith, t .slot-count .ensures .0)))
 
 -- where slot k stands
-place : (c : tie.After-weight-of Inv-loop μ-loop) → let b = c .before .before .before .before in let a = b .before .before .before .before .before .before .args in
+place : (c : tie.After-weight-of Inv-loop μ-loop) → let b = c .before .before .before .before in
+    let a = b .before .before .before .before .before .before .args in
     b .before .before .before .before .week-start .result + b .loop .k ≡ slotsBefore (a .slots .now) (a .week) + b .loop .k
 place c = omega (arith, c .before .before .before .before .before .before .before .before .week-start .ensures .0)
 
 -- its weight
-weight-is : (c : tie.After-weight-of Inv-loop μ-loop) → let b = c .before .before .before .before in let a = b .before .before .before .before .before .before .args in
+weight-is : (c : tie.After-weight-of Inv-loop μ-loop) → let b = c .before .before .before .before in
+    let a = b .before .before .before .before .before .before .args in
     c .weight-of .result ≡ weightIn (a .slots .now) (a .week) (a .place) (a .from) (b .loop .k)
 weight-is c =
     let b = c .before .before .before .before in
@@ -111,7 +114,8 @@ line-row-spec =
     (λ c. search needs)
     slot-there
     (λ c κs. slot-there (c .before) κs)
-    (λ c κs. let t = c .before .before .before .before .before .before in (omega (arith, c .slot-minutes .ensures .1), search needs, omega (arith, t .slot-count .ensures, c .before .before .loop-test .taken)))
+    (λ c κs. let t = c .before .before .before .before .before .before in
+    (omega (arith, c .slot-minutes .ensures .1), search needs, omega (arith, t .slot-count .ensures, c .before .before .loop-test .taken)))
     (λ c. search needs)
     (λ c. search needs)
     (λ c. omega (arith, c .before .before .before .before .loop .inv .3 (c .before .before .slot-product2 .result), c .weight-of .ensures .1))

@@ -96,7 +96,8 @@ returns-10 : tie.Need-returns-10
 unfolding weightOf
 returns-10 c =
     let s = c .before .before .before .before .before .before in
-    let six = sixth (s .pre .1) (c .before .before .before .before .before .if1 .left) (c .before .before .before .before .if2 .left) (c .before .before .before .if3 .left)
+    let six = sixth (s .pre .1) (c .before .before .before .before .before .if1 .left) (c .before .before .before .before .if2 .left)
+    (c .before .before .before .if3 .left)
     (c .before .before .if4 .left) (c .before .if6 .left) (c .if9 .left) in
     (at s 6 six refl, s .pre .0)
 

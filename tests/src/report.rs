@@ -1,48 +1,50 @@
 //! What `planreport` prints of two files.
 
-use std::fmt::Write;
-
 use crate::forms::{read_plan, read_plant};
 use crate::model::{Plan, Plant};
-use crate::reference;
+use crate::reference::{check, shown};
 
-/// How much of a file the program reads.
+/// Bytes that the program reads of a file; what lies beyond is not seen.
 pub const READ_LENGTH: usize = 65_536;
 
-/// The profit and a line for each slot, or the refusal.
+/// The whole text: the profit and a line for each slot, or the refusal.
 pub fn text(plant: &[u8], plan: &[u8]) -> String {
-    let plant = &plant[..plant.len().min(READ_LENGTH)];
-    let plan = &plan[..plan.len().min(READ_LENGTH)];
-    match reference::check(plant, plan) {
+    let (plant, plan) = (read_part(plant), read_part(plan));
+    match check(plant, plan) {
+        Ok(profit) => format!("passed {profit}\n{}", schedule(plant, plan)),
         Err(refusal) => format!("refused {refusal}\n"),
-        Ok(profit) => {
-            let plant = read_plant(plant).expect("a plan passed with this plant");
-            let plan = read_plan(&plant, plan).expect("this plan passed");
-            format!("passed {profit}\n{}", slot_lines(&plant, &plan))
-        }
     }
 }
 
-/// Week from 1, product, changeover minutes, start and end of each run.
-fn slot_lines(plant: &Plant, plan: &Plan) -> String {
-    let slots = reference::shown(plant.sizes, plan);
-    let mut runs = slots.slots.iter();
-    let mut mounted: Option<usize> = None;
-    let mut text = String::new();
-    for (&count, week) in slots.counts.iter().zip(1..) {
-        let mut clock = 0;
-        for slot in runs.by_ref().take(count.into()) {
+fn read_part(file: &[u8]) -> &[u8] {
+    &file[..file.len().min(READ_LENGTH)]
+}
+
+/// The slot lines of two files that pass.
+fn schedule(plant: &[u8], plan: &[u8]) -> String {
+    let plant = read_plant(plant).expect("a plant that was checked");
+    let plan = read_plan(&plant, plan).expect("a plan that was checked");
+    slot_lines(&plant, &plan).concat()
+}
+
+/// One line for each slot in running order: week from 1, product, changeover
+/// minutes, start and end of the run.
+fn slot_lines(plant: &Plant, plan: &Plan) -> Vec<String> {
+    let mut lines = Vec::new();
+    // The line keeps the product mounted from week to week.
+    let mut mounted = None;
+    for (week, row) in (1..).zip(shown(plant.sizes, plan).rows()) {
+        let mut clock = 0u64;
+        for slot in row {
             let product = usize::from(slot.product);
-            let changeover = mounted.map_or(0, |from| {
-                u32::from(plant.changeover_minutes[plant.sizes.from_to(from, product)])
-            });
-            let start = clock + changeover;
-            let end = start + u32::from(slot.minutes);
-            writeln!(text, "{week} {product} {changeover} {start} {end}")
-                .expect("a string takes any text");
-            clock = end;
+            let changeover = mounted
+                .map_or(0, |from| plant.changeover_minutes[plant.sizes.from_to(from, product)]);
+            let start = clock + u64::from(changeover);
+            let end = start + u64::from(slot.minutes);
+            lines.push(format!("{week} {product} {changeover} {start} {end}\n"));
             mounted = Some(product);
+            clock = end;
         }
     }
-    text
+    lines
 }

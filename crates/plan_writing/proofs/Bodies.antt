@@ -8,9 +8,9 @@ use lib.ListN.{length, getD, take, replicate}
 use lib.Seq.{getD-take, length-take-le}
 use borrow.Rule.Slice.PartMut.{midOf, putMid}
 use Rattle.mathematics.specs.Below.{joinBelow, listBelow}
-use Rattle.mathematics.proofs.Join.{join-table, even-length}
+use Rattle.mathematics.proofs.Join.{join-ext, join-table, even-length}
 use Rattle.mathematics.proofs.Lists.{list-at}
-use Rattle.numbers.specs.Number.{encode, store}
+use Rattle.numbers.specs.Number.{digits, encode, store}
 use Rattle.numbers.proofs.Number.{encode-length, encode-ext}
 use Rattle.numbers.proofs.Store.{part-store}
 use Rattle.contents.specs.File.{start, contentsBytes}
@@ -27,6 +27,11 @@ cube-rows : (k l m n : ℕ) (t : ℕ → ℕ → ℕ → ℕ) → cube k l m n t
 unfolding cube grid
 cube-rows k l m n t = join-table l m (λ h i. encode k n (t h i))
 
+-- the last two indices as one
+cube-squares : (k l m n : ℕ) (t : ℕ → ℕ → ℕ → ℕ) → cube k l m n t ≡ joinBelow l (λ h. encode k (m * n) (λ j. t h (j / n) (j % n)))
+unfolding cube grid
+cube-squares k l m n t = join-ext l _ _ (λ h q. join-table m n (λ i j. digits k (t h i j)))
+
 -- the bytes of the body in a place
 abbrev bodyIn : Shape → Plan → ℕ → List ℕ
 bodyIn f x place = joinBelow (rowsIn f place) (λ r. encode (widthIn place) (columnsIn f place) (rowIn f x place r))
@@ -40,8 +45,8 @@ bodies-are f x =
     bodyIn f x 0
     ∷ bodyIn f x 1
     ∷ bodyIn f x 2
-    ∷ cube-rows 1 w n n (x .line .changeover) u
-    ∷ cube-rows 1 w n n (x .line .weekChangeover) u
+    ∷ cube-squares 1 w n n (x .line .changeover) u
+    ∷ cube-squares 1 w n n (x .line .weekChangeover) u
     ∷ bodyIn f x 5
     ∷ bodyIn f x 6
     ∷ bodyIn f x 7
@@ -72,23 +77,38 @@ width-most =
     (most-next 8 2 (4 ∷ 4 ∷ 4 ∷ 4 ∷ 8 ∷ []) (omega arith)
     (most-more 8 4 4 (8 ∷ []) (omega arith) (most-next 8 8 [] (omega arith) (λ i. omega arith))))
 
-pub columns-most : (n w place : ℕ) → n ≤ 26 → w ≤ 26 → getD (columnCounts n w) place 0 ≤ 26
-columns-most n w place a b =
-    let one = most-next 26 1 [] (omega arith) (λ i. omega arith) in
-    let last = most-next 26 w (n ∷ w ∷ 1 ∷ []) b (most-next 26 n (w ∷ 1 ∷ []) a (most-next 26 w (1 ∷ []) b one)) in
-    most-more 26 n 8 (w ∷ n ∷ w ∷ 1 ∷ []) a last place
+pub columns-most : (n nn w place : ℕ) → n ≤ 255 → nn ≤ 65025 → w ≤ 255 → getD (columnCounts n nn w) place 0 ≤ 65025
+columns-most n nn w place a b c =
+    let m : ℕ = 65025 in
+    let n-most : n ≤ m = omega arith in
+    let w-most : w ≤ m = omega arith in
+    let last = most-next m w (n ∷ w ∷ 1 ∷ []) w-most (most-next m n (w ∷ 1 ∷ []) n-most (most-next m w (1 ∷ []) w-most
+    (most-next m 1 [] (omega arith) (λ i. omega arith)))) in
+    most-more m n 3 (nn ∷ nn ∷ n ∷ n ∷ n ∷ w ∷ n ∷ w ∷ 1 ∷ []) n-most
+    (most-more m nn 2 (n ∷ n ∷ n ∷ w ∷ n ∷ w ∷ 1 ∷ []) b (most-more m n 3 (w ∷ n ∷ w ∷ 1 ∷ []) n-most last)) place
 
--- E, F, L, O and T: a row for each week, a number for each product
-pub line-place : (f : Shape) (place : ℕ) → place < 7 → place ≢ 3 → place ≢ 4 → (rowsIn f place ≡ f .weeks) × (columnsIn f place ≡ f .products)
-unfolding rowsIn columnsIn
-line-place f zero l c d = (refl, refl)
-line-place f (suc zero) l c d = (refl, refl)
-line-place f (suc (suc zero)) l c d = (refl, refl)
-line-place f (suc (suc (suc zero))) l c d = absurd (c refl)
-line-place f (suc (suc (suc (suc zero)))) l c d = absurd (d refl)
-line-place f (suc (suc (suc (suc (suc zero))))) l c d = (refl, refl)
-line-place f (suc (suc (suc (suc (suc (suc zero)))))) l c d = (refl, refl)
-line-place f (suc (suc (suc (suc (suc (suc (suc place))))))) l c d = absurd (omega arith)
+-- E, F, L, Z, ZF and O have a byte for each number, and they, T and P a row for each week
+pub mark-width : (place : ℕ) → place < 6 → widthIn place ≡ 1
+unfolding widthIn
+mark-width zero l = refl
+mark-width (suc zero) l = refl
+mark-width (suc (suc zero)) l = refl
+mark-width (suc (suc (suc zero))) l = refl
+mark-width (suc (suc (suc (suc zero)))) l = refl
+mark-width (suc (suc (suc (suc (suc zero))))) l = refl
+mark-width (suc (suc (suc (suc (suc (suc place)))))) l = absurd (omega arith)
+
+pub week-rows : (f : Shape) (place : ℕ) → place < 8 → rowsIn f place ≡ f .weeks
+unfolding rowsIn
+week-rows f zero l = refl
+week-rows f (suc zero) l = refl
+week-rows f (suc (suc zero)) l = refl
+week-rows f (suc (suc (suc zero))) l = refl
+week-rows f (suc (suc (suc (suc zero)))) l = refl
+week-rows f (suc (suc (suc (suc (suc zero))))) l = refl
+week-rows f (suc (suc (suc (suc (suc (suc zero)))))) l = refl
+week-rows f (suc (suc (suc (suc (suc (suc (suc zero))))))) l = refl
+week-rows f (suc (suc (suc (suc (suc (suc (suc (suc place)))))))) l = absurd (omega arith)
 
 -- rows of one size
 pub rows-length : (k n r : ℕ) (g : ℕ → ℕ → ℕ) → length (joinBelow r (λ q. encode k n (g q))) ≡ r * (k * n)

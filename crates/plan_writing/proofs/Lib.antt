@@ -1,5 +1,9 @@
+pub mod Scatter
 pub mod WeekSums
-pub mod WeekTables
 pub mod Rows
 pub mod RunWeeks
+pub mod WeekTables
+pub mod Once
+pub mod SalesBytes
+pub mod MarkCells
 pub mod Bodies

@@ -84,7 +84,7 @@ module _ (f : Shape) (plant slots : List ℕ) (h : Ran f plant slots) where
       let e : r ≡ continues (r .state) = λ u. record { state = r .state; outcome = h .goes u } in
       run-goes P ranges S (r .state) (formed f plant slots (h .slots-good)) e
 
-  clear : (w : ℕ) → w < f .weeks → WeekClear P S w
+  pub clear : (w : ℕ) → w < f .weeks → WeekClear P S w
   clear = goes-on .0
 
   -- the profit of the tables is the run's

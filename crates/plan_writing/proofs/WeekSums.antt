@@ -1,9 +1,11 @@
 -- The tables of a week as sums over its slots, where slot k is g k. Assumes nothing.
 use Prim.Native.Nat.{ℕ, zero, suc, _+_, _*_}
-use mathlib.Core.Path.{_≡_, refl, ap, _∙_}
+use mathlib.Core.Path.{_≡_, refl, sym, ap, _∙_}
 use native.Mathlib.Omega.{arith}
+use native.Mathlib.Nat.{mul-add}
+use native.Mathlib.Decide.{ℕ-discrete}
 use Rattle.mathematics.specs.Below.{sumBelow, listBelow, is}
-use Rattle.mathematics.proofs.Below.{sum-ext, sum-first}
+use Rattle.mathematics.proofs.Below.{sum-ext, sum-first, is-same, is-other}
 use Rattle.slot_file.specs.Slots.{Slot}
 use Rattle.machine.specs.declared.Mounted.{Mounted}
 use Rattle.machine.specs.declared.Mounted.the-variants.{Nothing, Product}
@@ -16,6 +18,21 @@ ran-sum (suc n) g i = omega (arith, ran-sum n (λ k. g (suc k)) i, sum-first n (
 pub minutes-sum : (n : ℕ) (g : ℕ → Slot) (i : ℕ) → minutesOf (listBelow n g) i ≡ sumBelow n (λ k. is (g k .product) i * g k .minutes)
 minutes-sum zero g i = refl
 minutes-sum (suc n) g i = omega (arith, minutes-sum n (λ k. g (suc k)) i, sum-first n (λ k. is (g k .product) i * g k .minutes))
+
+-- what runs of product i make, at its rate
+made-one : (p i m : ℕ) (rate : ℕ → ℕ) → rate p * m * is p i ≡ rate i * (is p i * m)
+made-one p i m rate =
+    elim (ℕ-discrete p i) [
+      | yes e ↦ rw (e, is-same i i refl) (omega arith)
+      | no d ↦ rw (is-other p i d) (omega arith)
+    ]
+
+pub made-sum : (n : ℕ) (g : ℕ → Slot) (rate : ℕ → ℕ) (i : ℕ)
+    → sumBelow n (λ k. rate (g k .product) * g k .minutes * is (g k .product) i) ≡ rate i * sumBelow n (λ k. is (g k .product) i * g k .minutes)
+made-sum zero g rate i = omega arith
+made-sum (suc n) g rate i =
+    (λ u. made-sum n g rate i u + made-one (g n .product) i (g n .minutes) rate u)
+    ∙ sym (mul-add (rate i) (sumBelow n (λ k. is (g k .product) i * g k .minutes)) (is (g n .product) i * g n .minutes))
 
 places-from : (m n : ℕ) (g : ℕ → Slot) (i : ℕ)
     → placesFrom m (orderOfSlots (listBelow n g)) i ≡ sumBelow n (λ k. is (g k .product) i * (m + k + 1))

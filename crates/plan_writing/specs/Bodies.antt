@@ -11,19 +11,19 @@ use Rattle.plan_file.specs.Plan.{Plan}
 unfoldable pub widthIn : ℕ → ℕ
 widthIn place = getD (1 ∷ 1 ∷ 1 ∷ 1 ∷ 1 ∷ 1 ∷ 2 ∷ 4 ∷ 4 ∷ 4 ∷ 4 ∷ 8 ∷ []) place 0
 
--- how many rows each body has: weeks w, weeks and products wn, customers and products cn
-abbrev pub rowCounts : (w wn cn : ℕ) → List ℕ
-rowCounts w wn cn = w ∷ w ∷ w ∷ wn ∷ wn ∷ w ∷ w ∷ w ∷ cn ∷ w ∷ cn ∷ 1 ∷ []
+-- how many rows each body has: a row is a week, or a customer and product. Weeks w, customers and products cn
+abbrev pub rowCounts : (w cn : ℕ) → List ℕ
+rowCounts w cn = w ∷ w ∷ w ∷ w ∷ w ∷ w ∷ w ∷ w ∷ cn ∷ w ∷ cn ∷ 1 ∷ []
 
 unfoldable pub rowsIn : Shape → ℕ → ℕ
-rowsIn f place = getD (rowCounts (f .weeks) (f .weeks * f .products) (f .customers * f .products)) place 0
+rowsIn f place = getD (rowCounts (f .weeks) (f .customers * f .products)) place 0
 
--- and how many numbers each row: products n, weeks w
-abbrev pub columnCounts : (n w : ℕ) → List ℕ
-columnCounts n w = n ∷ n ∷ n ∷ n ∷ n ∷ n ∷ n ∷ n ∷ w ∷ n ∷ w ∷ 1 ∷ []
+-- and how many numbers each row: products n, products by products nn, weeks w
+abbrev pub columnCounts : (n nn w : ℕ) → List ℕ
+columnCounts n nn w = n ∷ n ∷ n ∷ nn ∷ nn ∷ n ∷ n ∷ n ∷ w ∷ n ∷ w ∷ 1 ∷ []
 
 unfoldable pub columnsIn : Shape → ℕ → ℕ
-columnsIn f place = getD (columnCounts (f .products) (f .weeks)) place 0
+columnsIn f place = getD (columnCounts (f .products) (f .products * f .products) (f .weeks)) place 0
 
 -- number j of row r of the body in a place
 unfoldable pub rowIn : Shape → Plan → (place r j : ℕ) → ℕ
@@ -32,8 +32,8 @@ rowIn f x place r j =
     (x .line .assigned r j
     ∷ x .line .first r j
     ∷ x .line .last r j
-    ∷ x .line .changeover (r / f .products) (r % f .products) j
-    ∷ x .line .weekChangeover (r / f .products) (r % f .products) j
+    ∷ x .line .changeover r (j / f .products) (j % f .products)
+    ∷ x .line .weekChangeover r (j / f .products) (j % f .products)
     ∷ x .line .position r j
     ∷ x .line .minutes r j
     ∷ x .production r j
@@ -57,10 +57,6 @@ abbrev pub Small : List ℕ → Type 0
 Small row = (j : ℕ) → getD row j 0 ≤ 16777216
 
 -- ---- a row that needs the row before it
--- before row r stands row r - 1
-abbrev pub Preceded : Shape → Plan → (place r : ℕ) → List ℕ → Type 0
-Preceded f x place r before = (q : ℕ) → r ≡ suc q → Shows (columnsIn f place) (rowIn f x place q) before
-
 -- the opening number before week 0, else what is carried
 abbrev pub carriedInto : (week opening carried : ℕ) → ℕ
 carriedInto zero opening carried = opening

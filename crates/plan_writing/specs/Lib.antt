@@ -1,3 +1,3 @@
 pub mod Run
 pub mod Bodies
-pub mod Weights
+pub mod Marks

@@ -1,25 +1,28 @@
-// Plan writing: the plan file of a run without a stop, row by row in file order.
+// Plan writing: the plan file of a run without a stop, body by body in file order. The line's tables start as 0 and each slot stores its
+// number; inventory and backlog follow their balances.
 ghost use mathlib.Core.Path.{_≡_};
 ghost use mathlib.Core.List.{[]};
-ghost use Prim.Native.Nat.{_*_, _-_, _≤_, _<_};
-ghost use lib.ListN.{length, getD};
+ghost use mathlib.Core.Logic.{_≢_};
+ghost use Prim.Native.Nat.{_+_, _*_, _-_, _/_, _%_, _≤_, _<_};
+ghost use lib.ListN.{length, getD, replicate};
 ghost use Rattle.mathematics.specs.Below.{is};
-ghost use Rattle.numbers.specs.Number.{store};
+ghost use Rattle.numbers.specs.Number.{encode, store};
 ghost use Rattle.numbers.specs.Signed.{unsignedOf};
 ghost use Rattle.contents.specs.File.{start};
 ghost use Rattle.sections.specs.declared.Form.the-variants.{Good};
+ghost use Rattle.sections.specs.Section.{cube};
 ghost use Rattle.plant_file.specs.Plant.{plantOf};
 ghost use Rattle.plant_file.specs.Form.{plantForm};
 ghost use Rattle.plan_file.specs.Form.{planLengths};
 ghost use Rattle.plan_file.specs.File.{planBodies, planFile};
-ghost use Rattle.slot_file.specs.Slots.{slotsOf};
+ghost use Rattle.slot_file.specs.Slots.{slotsBefore, slotsOf};
 ghost use Rattle.slot_file.specs.Form.{slotForm};
-ghost use Rattle.model.specs.RunTables.{runTables};
+ghost use Rattle.model.specs.RunTables.{minutesOf, runTables};
 ghost use Rattle.calls.specs.declared.Written.the-variants.{Length};
 ghost use Rattle.calls.specs.Answer.{bytes, planAnswer, writtenIn, outputAfter};
-ghost use Rattle.plan_writing.specs.Run.{Ran};
-ghost use Rattle.plan_writing.specs.Bodies.{widthIn, rowsIn, columnsIn, rowIn, Row, Small, carriedInto, Carried, Preceded};
-ghost use Rattle.plan_writing.specs.Weights.{weightOf, LineRow};
+ghost use Rattle.plan_writing.specs.Run.{Ran, WeekOf};
+ghost use Rattle.plan_writing.specs.Bodies.{widthIn, rowsIn, columnsIn, rowIn, Row, Small, carriedInto, Carried};
+ghost use Rattle.plan_writing.specs.Marks.{later, shownFrom, shownTo, strideIn, marked};
 use calls::Written;
 use calls::refuse;
 use machine::Outcome;
@@ -28,18 +31,19 @@ use machine::run;
 use machine::sold_of;
 use numbers::count;
 use numbers::unsigned;
+use numbers::write;
 use numbers::write_all;
 use plan_file::plan_length;
 use plan_file::section_start;
-use plant_file::demand;
-use plant_file::opening_backlog;
 use plant_file::opening_inventory;
+use plant_file::pair_demand;
+use plant_file::pair_opening_backlog;
 use plant_file::plant_form;
 use plant_file::rate;
 use sections::Form;
 use sections::Shape;
 use sections::area;
-use slot_file::sales;
+use slot_file::pair_sales;
 use slot_file::slot_count;
 use slot_file::slot_form;
 use slot_file::slot_minutes;
@@ -53,48 +57,11 @@ fn same(a: usize, b: usize) -> u64
     if a == b { 1 } else { 0 }
 }
 
-// What slot k of the `total` of a week adds to the number of its product in the table in a place. `previous` is the product of the
-// slot before it, and `from` the product that Z and ZF lead from.
-fn weight_of(
-    week: usize,
-    total: usize,
-    previous: usize,
-    minutes: u64,
-    place: usize,
-    from: usize,
-    k: usize,
-) -> u64
-    requires { ⌜ (minutes ≤ 65535) × (place < 7) × (k < 255) ⌝ }
-    ensures { λ r. ⌜ (r ≡ weightOf week total previous minutes place from k) × (r ≤ 65535) ⌝ }
+// 0 for the first of several, else 1.
+fn later(n: usize) -> usize
+    ensures { λ r. ⌜ r ≡ later n ⌝ }
 {
-    if place == 0 {
-        return 1;
-    }
-    if place == 1 {
-        return same(k, 0);
-    }
-    if place == 2 {
-        return same(k + 1, total);
-    }
-    if place == 3 {
-        if k == 0 {
-            return 0;
-        }
-        return same(previous, from);
-    }
-    if place == 4 {
-        if week == 0 {
-            return 0;
-        }
-        if k != 0 {
-            return 0;
-        }
-        return same(previous, from);
-    }
-    if place == 5 {
-        return k as u64 + 1;
-    }
-    minutes
+    if n == 0 { 0 } else { 1 }
 }
 
 // The slot before a slot; the first of all for itself.
@@ -107,23 +74,223 @@ fn slot_before(j: usize) -> usize
     j - 1
 }
 
-// A week's row of E, F, L, O or T, or the row of Z or ZF from a product: one pass over the week's slots.
-fn line_row(slots: &[u8], f: Shape, week: usize, place: usize, from: usize) -> [u64; 26]
-    requires { ⌜ (slotForm f (now slots) ≡ Good f) × (week < f .weeks) × (place < 7) × (f .products ≤ 16) ⌝ }
-    ensures { λ r. ⌜ LineRow (now (slots .entry)) week place from (f .products) r ⌝ }
+// Stores n bytes of 0.
+fn clear(out: &mut [u8], n: usize)
+    requires { ⌜ n ≤ length (now out) ⌝ }
+    ensures { λ _. ⌜ now (out .exit) ≡ store (now (out .entry)) 0 (replicate n 0) ⌝ }
 {
-    let first = week_start(slots, f, week);
+    let mut i = 0;
+    while i < n {
+        out[i] = 0;
+        i += 1;
+    }
+}
+
+// The first slot of a week that E, F, L, Z, ZF or O shows, of `total` slots.
+fn shown_from(total: usize, place: usize) -> usize
+    requires { ⌜ (1 ≤ total) × (place < 6) ⌝ }
+    ensures { λ r. ⌜ r ≡ shownFrom total place ⌝ }
+{
+    if place == 2 {
+        return total - 1;
+    }
+    if place == 3 {
+        return 1;
+    }
+    0
+}
+
+// The slot after the last of these.
+fn shown_to(week: usize, total: usize, place: usize) -> usize
+    requires { ⌜ place < 6 ⌝ }
+    ensures { λ r. ⌜ r ≡ shownTo week total place ⌝ }
+{
+    if place == 1 {
+        return 1;
+    }
+    if place == 4 {
+        return later(week);
+    }
+    total
+}
+
+// How far apart the rows of a week's table are: Z and ZF have one for each product that they lead from.
+fn stride_of(f: Shape, place: usize) -> usize
+    requires { ⌜ place < 6 ⌝ }
+    ensures { λ r. ⌜ (r ≡ strideIn (f .products) place) × (r ≤ 255) ⌝ }
+{
+    if place == 3 {
+        return count(f.products);
+    }
+    if place == 4 {
+        return count(f.products);
+    }
+    0
+}
+
+// Stores a week's table of E, F, L, Z, ZF or O; slot `first` is the week's first.
+fn write_marks(out: &mut [u8], slots: &[u8], f: Shape, place: usize, week: usize, first: usize)
+    requires { ⌜ WeekOf f (now slots) week first × (place < 6) × (columnsIn f place ≤ length (now out)) ⌝ }
+    ensures { λ _. ⌜ now (out .exit)
+        ≡ store (now (out .entry)) 0 (encode 1 (columnsIn f place) (marked (now (slots .entry)) (f .products) week place)) ⌝ }
+{
+    clear(out, columns_of(f, place));
     let total = slot_count(slots, f, week);
-    let mut previous = slot_product(slots, f, slot_before(first));
+    let stride = stride_of(f, place);
+    let rise = same(place, 5);
+    let end = shown_to(week, total, place);
+    let mut k = shown_from(total, place);
+    while k < end {
+        let j = first + k;
+        let product = slot_product(slots, f, j);
+        let previous = slot_product(slots, f, slot_before(j));
+        write(out, stride * previous + product, 1, 1 + rise * (k as u64));
+        k += 1;
+    }
+}
+
+// Stores a week's row of T.
+fn write_minutes(out: &mut [u8], slots: &[u8], f: Shape, week: usize, first: usize)
+    requires { ⌜ WeekOf f (now slots) week first × (2 * f .products ≤ length (now out)) ⌝ }
+    ensures { λ _. ⌜ now (out .exit)
+        ≡ store (now (out .entry)) 0 (encode 2 (f .products) (minutesOf (slotsOf f (now (slots .entry)) .line .week week))) ⌝ }
+{
+    clear(out, 2 * count(f.products));
+    let total = slot_count(slots, f, week);
+    let mut k = 0;
+    while k < total {
+        let j = first + k;
+        let product = slot_product(slots, f, j);
+        let minutes = slot_minutes(slots, f, j);
+        write(out, 2 * product, 2, minutes);
+        k += 1;
+    }
+}
+
+// Stores a week's row of P.
+fn write_production(out: &mut [u8], plant: &[u8], slots: &[u8], f: Shape, week: usize, first: usize)
+    requires { ⌜ (plantForm (now plant) ≡ Good f) × WeekOf f (now slots) week first × (4 * f .products ≤ length (now out)) ⌝ }
+    ensures { λ _. ⌜ now (out .exit) ≡ store (now (out .entry)) 0
+        (encode 4 (f .products) (λ i. plantOf f (now (plant .entry)) .line .rate i * minutesOf (slotsOf f (now (slots .entry)) .line .week week) i)) ⌝ }
+{
+    clear(out, 4 * count(f.products));
+    let total = slot_count(slots, f, week);
+    let mut k = 0;
+    while k < total {
+        let j = first + k;
+        let product = slot_product(slots, f, j);
+        let minutes = slot_minutes(slots, f, j);
+        write(out, 4 * product, 4, rate(plant, f, product) * minutes);
+        k += 1;
+    }
+}
+
+// Stores a customer's and product's row of Δ, from the opening on.
+fn write_backlog(out: &mut [u8], plant: &[u8], slots: &[u8], f: Shape, pair: usize)
+    requires { ⌜ Ran f (now plant) (now slots) × (pair < f .customers * f .products) × (4 * f .weeks ≤ length (now out)) ⌝ }
+    ensures { λ _. ⌜ now (out .exit) ≡ store (now (out .entry)) 0
+        (encode 4 (f .weeks) (runTables (plantOf f (now (plant .entry))) (slotsOf f (now (slots .entry))) .backlog (pair / f .products) (pair % f .products))) ⌝ }
+{
+    let weeks = count(f.weeks);
+    let mut backlog = pair_opening_backlog(plant, f, pair);
+    let mut week = 0;
+    while week < weeks {
+        let due = backlog + pair_demand(plant, f, pair, week);
+        backlog = due - pair_sales(slots, f, pair, week);
+        write(out, 4 * week, 4, backlog);
+        week += 1;
+    }
+}
+
+// Stores row r of the body in a place; where it is a week, slot `first` is the week's first.
+fn write_row(
+    out: &mut [u8],
+    plant: &[u8],
+    slots: &[u8],
+    f: Shape,
+    place: usize,
+    r: usize,
+    first: usize,
+)
+    requires { ⌜ Ran f (now plant) (now slots) × (place < 11) × (place ≢ 8) × (place ≢ 9) × (r < rowsIn f place)
+        × (place < 8 → first ≡ slotsBefore (now slots) r) × (widthIn place * columnsIn f place ≤ length (now out)) ⌝ }
+    ensures { λ _. ⌜ now (out .exit) ≡ store (now (out .entry)) 0
+        (encode (widthIn place) (columnsIn f place) (rowIn f (runTables (plantOf f (now (plant .entry))) (slotsOf f (now (slots .entry)))) place r)) ⌝ }
+{
+    if place == 6 {
+        return write_minutes(out, slots, f, r, first);
+    }
+    if place == 7 {
+        return write_production(out, plant, slots, f, r, first);
+    }
+    if place == 10 {
+        return write_backlog(out, plant, slots, f, r);
+    }
+    write_marks(out, slots, f, place, r, first)
+}
+
+// The first slot of the week after row r, where row r is a week.
+fn first_after(slots: &[u8], f: Shape, place: usize, r: usize, first: usize) -> usize
+    requires { ⌜ (slotForm f (now slots) ≡ Good f) × (place < 8 → r < f .weeks) × (place < 8 → first ≡ slotsBefore (now slots) r) ⌝ }
+    ensures { λ q. ⌜ (place < 8 → q ≡ slotsBefore (now (slots .entry)) (r + 1)) ⌝ }
+{
+    if place < 8 {
+        return first + slot_count(slots, f, r);
+    }
+    first
+}
+
+// Stores a body row by row.
+fn write_rows(out: &mut [u8], plant: &[u8], slots: &[u8], f: Shape, place: usize)
+    requires { ⌜ Ran f (now plant) (now slots) × (place < 11) × (place ≢ 8) × (place ≢ 9) × (getD (planLengths f) place 0 ≤ length (now out)) ⌝ }
+    ensures { λ _. ⌜ now (out .exit) ≡ store (now (out .entry)) 0
+        (getD (planBodies f (runTables (plantOf f (now (plant .entry))) (slotsOf f (now (slots .entry))))) place []) ⌝ }
+{
+    let width = width_of(place);
+    let rows = rows_of(f, place);
+    let columns = columns_of(f, place);
+    let size = width * columns;
+    let mut first = 0;
+    let mut p = 0;
+    let mut r = 0;
+    while r < rows {
+        write_row(&mut out[p..], plant, slots, f, place, r, first);
+        first = first_after(slots, f, place, r, first);
+        p += size;
+        r += 1;
+    }
+}
+
+// Stores S, which has the bytes of the slot file's sales.
+fn write_sales(out: &mut [u8], slots: &[u8], f: Shape)
+    requires { ⌜ (slotForm f (now slots) ≡ Good f) × (4 * (f .customers * f .products * f .weeks) ≤ length (now out)) ⌝ }
+    ensures { λ _. ⌜ now (out .exit)
+        ≡ store (now (out .entry)) 0 (cube 4 (f .customers) (f .products) (f .weeks) (slotsOf f (now (slots .entry)) .sales)) ⌝ }
+{
+    let weeks = count(f.weeks);
+    let total = week_start(slots, f, weeks);
+    let at = slot_file::section_start(f, total, 2);
+    let bytes = 4 * (area(f.customers, f.products) * weeks);
+    let mut i = 0;
+    while i < bytes {
+        out[i] = slots[at + i];
+        i += 1;
+    }
+}
+
+// A week's row of T.
+fn minutes_row(slots: &[u8], f: Shape, week: usize, first: usize) -> [u64; 26]
+    requires { ⌜ WeekOf f (now slots) week first × (f .products ≤ 16) ⌝ }
+    ensures { λ r. ⌜ Row (f .products) (minutesOf (slotsOf f (now (slots .entry)) .line .week week)) r × Small r ⌝ }
+{
+    let total = slot_count(slots, f, week);
     let mut row = [0; 26];
     let mut k = 0;
     while k < total {
         let j = first + k;
         let product = slot_product(slots, f, j);
         let minutes = slot_minutes(slots, f, j);
-        let weight = weight_of(week, total, previous, minutes, place, from, k);
-        row[product] = row[product] + weight;
-        previous = product;
+        row[product] = row[product] + minutes;
         k += 1;
     }
     row
@@ -179,79 +346,28 @@ fn inventory_row(
     row
 }
 
-// A customer's and product's row of S.
-fn sales_row(slots: &[u8], f: Shape, customer: usize, product: usize) -> [u64; 26]
-    requires { ⌜ (slotForm f (now slots) ≡ Good f) × (customer < f .customers) × (product < f .products) × (f .weeks ≤ 26) ⌝ }
-    ensures { λ r. ⌜ Row (f .weeks) (slotsOf f (now (slots .entry)) .sales customer product) r ⌝ }
+// Stores V, week by week.
+fn write_inventory(out: &mut [u8], plant: &[u8], slots: &[u8], f: Shape)
+    requires { ⌜ Ran f (now plant) (now slots) × (getD (planLengths f) 9 0 ≤ length (now out)) ⌝ }
+    ensures { λ _. ⌜ now (out .exit) ≡ store (now (out .entry)) 0
+        (getD (planBodies f (runTables (plantOf f (now (plant .entry))) (slotsOf f (now (slots .entry))))) 9 []) ⌝ }
 {
-    let weeks = count(f.weeks);
-    let mut row = [0; 26];
-    let mut week = 0;
-    while week < weeks {
-        row[week] = sales(slots, f, customer, product, week);
-        week += 1;
-    }
-    row
-}
-
-// A customer's and product's row of Δ, from the opening on.
-fn backlog_row(plant: &[u8], slots: &[u8], f: Shape, customer: usize, product: usize) -> [u64; 26]
-    requires { ⌜ Ran f (now plant) (now slots) × (customer < f .customers) × (product < f .products) × (f .weeks ≤ 26) ⌝ }
-    ensures { λ r. ⌜ Row (f .weeks) (runTables (plantOf f (now (plant .entry))) (slotsOf f (now (slots .entry))) .backlog customer product) r ⌝ }
-{
-    let weeks = count(f.weeks);
-    let mut row = [0; 26];
-    let mut backlog = opening_backlog(plant, f, customer, product);
-    let mut week = 0;
-    while week < weeks {
-        let due = backlog + demand(plant, f, customer, product, week);
-        backlog = due - sales(slots, f, customer, product, week);
-        row[week] = backlog;
-        week += 1;
-    }
-    row
-}
-
-// Row r of the body in a place; `profit` is the profit's number of 8 bytes, and `before` the row before it.
-fn row_of(
-    plant: &[u8],
-    slots: &[u8],
-    f: Shape,
-    profit: u64,
-    place: usize,
-    r: usize,
-    before: [u64; 26],
-) -> [u64; 26]
-    requires { ⌜ Ran f (now plant) (now slots) × (profit ≡ unsignedOf (runTables (plantOf f (now plant)) (slotsOf f (now slots)) .profit)) × (place < 12)
-        × (r < rowsIn f place) × Preceded f (runTables (plantOf f (now plant)) (slotsOf f (now slots))) place r before ⌝ }
-    ensures { λ q. ⌜ Row (columnsIn f place) (rowIn f (runTables (plantOf f (now (plant .entry))) (slotsOf f (now (slots .entry)))) place r) q ⌝ }
-{
-    if place == 11 {
-        return [profit; 26];
-    }
     let products = count(f.products);
-    let table = r / products;
-    let row = r % products;
-    if place == 8 {
-        return sales_row(slots, f, table, row);
+    let weeks = count(f.weeks);
+    let size = 4 * products;
+    let mut row = [0; 26];
+    let mut first = 0;
+    let mut p = 0;
+    let mut week = 0;
+    while week < weeks {
+        let minutes = minutes_row(slots, f, week, first);
+        let made = production_row(plant, f, minutes);
+        row = inventory_row(plant, slots, f, week, made, row);
+        write_all(&mut out[p..], 4, &row[..products]);
+        first += slot_count(slots, f, week);
+        p += size;
+        week += 1;
     }
-    if place == 10 {
-        return backlog_row(plant, slots, f, table, row);
-    }
-    if place == 3 {
-        return line_row(slots, f, table, 3, row);
-    }
-    if place == 4 {
-        return line_row(slots, f, table, 4, row);
-    }
-    if place == 7 {
-        return production_row(plant, f, line_row(slots, f, r, 6, 0));
-    }
-    if place == 9 {
-        let made = production_row(plant, f, line_row(slots, f, r, 6, 0));
-        return inventory_row(plant, slots, f, r, made, before);
-    }
-    line_row(slots, f, r, place, 0)
 }
 
 // How many bytes each number of the body in a place has.
@@ -269,14 +385,13 @@ fn rows_of(f: Shape, place: usize) -> usize
     ensures { λ r. ⌜ r ≡ rowsIn f place ⌝ }
 {
     let weeks = count(f.weeks);
-    let squares = area(f.weeks, f.products);
     let pairs = area(f.customers, f.products);
     let counts = [
         weeks,
         weeks,
         weeks,
-        squares,
-        squares,
+        weeks,
+        weeks,
         weeks,
         weeks,
         weeks,
@@ -290,17 +405,18 @@ fn rows_of(f: Shape, place: usize) -> usize
 
 // How many numbers each of these rows has.
 fn columns_of(f: Shape, place: usize) -> usize
-    requires { ⌜ (place < 12) × (f .products ≤ 16) × (f .weeks ≤ 26) ⌝ }
-    ensures { λ r. ⌜ (r ≡ columnsIn f place) × (r ≤ 26) ⌝ }
+    requires { ⌜ place < 12 ⌝ }
+    ensures { λ r. ⌜ (r ≡ columnsIn f place) × (r ≤ 65025) ⌝ }
 {
     let products = count(f.products);
+    let squares = area(f.products, f.products);
     let weeks = count(f.weeks);
     let counts = [
         products,
         products,
         products,
-        products,
-        products,
+        squares,
+        squares,
         products,
         products,
         products,
@@ -319,19 +435,16 @@ fn write_body(out: &mut [u8], plant: &[u8], slots: &[u8], f: Shape, profit: u64,
     ensures { λ _. ⌜ now (out .exit) ≡ store (now (out .entry)) 0
         (getD (planBodies f (runTables (plantOf f (now (plant .entry))) (slotsOf f (now (slots .entry))))) place []) ⌝ }
 {
-    let width = width_of(place);
-    let rows = rows_of(f, place);
-    let columns = columns_of(f, place);
-    let size = width * columns;
-    let mut row = [0; 26];
-    let mut p = 0;
-    let mut r = 0;
-    while r < rows {
-        row = row_of(plant, slots, f, profit, place, r, row);
-        write_all(&mut out[p..], width, &row[..columns]);
-        p += size;
-        r += 1;
+    if place == 8 {
+        return write_sales(out, slots, f);
     }
+    if place == 9 {
+        return write_inventory(out, plant, slots, f);
+    }
+    if place == 11 {
+        return write(out, 0, 8, profit);
+    }
+    write_rows(out, plant, slots, f, place)
 }
 
 // Stores the plan file: its contents, then each body in its own stretch of the output.

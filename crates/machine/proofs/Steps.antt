@@ -2,6 +2,7 @@
 use Prim.Native.Nat.{ℕ, _≤_, _<_}
 use mathlib.Core.Path.{_≡_, refl, sym, ap}
 use mathlib.Core.Bool.{Bool, true, false, not}
+use mathlib.Core.List.{List}
 use native.Mathlib.Omega.{arith}
 use lib.Dec.{leb, ltb}
 use borrow.Author.Tests.{lt-ltb, le-ltb, ltb-false, leb-true, not-false}
@@ -11,8 +12,10 @@ use Rattle.plant_file.specs.Plant.{Plant}
 use Rattle.slot_file.specs.Slots.{Slot}
 use Rattle.machine.specs.declared.State.{State}
 use Rattle.machine.specs.declared.Step.{Step}
+use Rattle.machine.specs.declared.Outcome.{Outcome}
 use Rattle.machine.specs.declared.Outcome.the-variants.{Continues, Stops}
-use Rattle.machine.specs.State.{inventoryOf, backlogOf, hasRun, withInventory, continues, stops, stopIf}
+use Rattle.machine.specs.State.{inventoryOf, backlogOf, hasRun, withInventory, withBacklog, withWeek, withProfit, withMounted}
+use Rattle.machine.specs.State.{continues, stops, stopIf}
 use Rattle.machine.specs.Machine.{clockAfter, slotDone, slotStep}
 use Rattle.machine.specs.Machine.{soldOf, salesDue, salesInStock, inventoryAfter, storageKept, weekDone, weekEnd}
 
@@ -22,6 +25,17 @@ if-goes true n s r t e =
     let o : Stops n ≡ Continues = ap (λ (x : Step). x .outcome) e in
     absurd (let z : _≡_ {A = ℕ} 0 1 = cc in omega arith)
 if-goes false n s r t e = (refl, e)
+
+-- one that stops leaves the state as it was
+if-stays : (b : Bool) (n : ℕ) (s : State) (r : Step) (m : ℕ) → (r .outcome ≡ Stops m → r .state ≡ s)
+    → stopIf b n s r .outcome ≡ Stops m → stopIf b n s r .state ≡ s
+if-stays true n s r m h e = refl
+if-stays false n s r m h e = h e
+
+-- it leaves the backlog as the next step does
+if-backlog : (b : Bool) (n : ℕ) (s : State) (r : Step) → r .state .backlog ≡ s .backlog → stopIf b n s r .state .backlog ≡ s .backlog
+if-backlog true n s r e = refl
+if-backlog false n s r e = e
 
 continued : {s t : State} → continues s ≡ continues t → t ≡ s
 continued e = sym (ap (λ (x : Step). x .state) e)
@@ -51,6 +65,29 @@ module _ (P : Plant) (x : Slot) (s : State) where
       let b = if-goes (ltb (x .minutes) (P .shortestRun)) 35 s _ t (a .1) in
       let d = if-goes (ltb (P .weekMinutes) (clockAfter P x s)) 36 s _ t (b .1) in
       (continued (d .1), ltb-false _ _ (d .0))
+
+  pub slot-stays : (n : ℕ) → slotStep P x s .outcome ≡ Stops n → slotStep P x s .state ≡ s
+  unfolding slotStep
+  slot-stays n e =
+      if-stays (hasRun s (x .product)) 25 s _ n
+      (if-stays (ltb (x .minutes) (P .shortestRun)) 35 s _ n
+      (if-stays (ltb (P .weekMinutes) (clockAfter P x s)) 36 s _ n (λ o. absurd (let z : _≡_ {A = ℕ} 0 1 = cc in omega arith)))) e
+
+  -- a slot leaves the backlog as it is
+  slot-backlog : slotStep P x s .state .backlog ≡ s .backlog
+  unfolding slotStep slotDone withInventory withWeek withProfit withMounted
+  slot-backlog =
+      if-backlog (hasRun s (x .product)) 25 s _
+      (if-backlog (ltb (x .minutes) (P .shortestRun)) 35 s _
+      (if-backlog (ltb (P .weekMinutes) (clockAfter P x s)) 36 s (continues (slotDone P x s)) refl))
+
+  -- a slot by its parts
+  pub slot-parts : (t : State) (o : Outcome) → t ≡ slotStep P x s .state → o ≡ slotStep P x s .outcome
+      → _≡_ {A = Step} (record { state = withBacklog t (s .backlog); outcome = o }) (slotStep P x s)
+  unfolding withBacklog
+  slot-parts t o e q =
+      let r = slotStep P x s in
+      rw (e, q) (ap {B = Step} (λ (l : List ℕ). record { state = withBacklog (r .state) l; outcome = r .outcome }) (sym slot-backlog))
 
 module _ (P : Plant) (w : ℕ) (sales : ℕ → ℕ → ℕ) (s : State) where
   pub week-undue : salesDue P w sales s ≡ false → weekEnd P w sales s ≡ stops s 38

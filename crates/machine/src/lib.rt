@@ -62,17 +62,18 @@ pub enum Mounted {
     Product(u8),
 }
 
+// A number stands between two arrays, and no array is indexed where it stands: the compiler can then hold each field apart.
 pub struct State {
     // Grams of each product (the paper's stock).
     pub inventory: [u64; 16],
-    // Grams owed to customer c of product i, at c * N + i (the paper's owed).
-    pub backlog: [u64; 128],
-    // The products run this week.
-    pub ran: [bool; 16],
     // Minutes of the week that are used.
     pub clock: Minutes,
+    // Grams owed to customer c of product i, at c * N + i (the paper's owed).
+    pub backlog: [u64; 128],
     // Profit so far (the paper's purse).
     pub profit: Profit,
+    // The products run this week.
+    pub ran: [bool; 16],
     pub mounted: Mounted,
 }
 
@@ -235,18 +236,61 @@ impl State {
         requires { ⌜ (plantForm (now plant) ≡ Good f) × (product < f .products) × (time .0 < 2 ^ 16) × Roomy f self ⌝ }
         ensures { λ r. ⌜ r ≡ slotDone (plantOf f (now (plant .entry))) (record { product = product; minutes = time .0 }) self ⌝ }
     {
-        let mut s = self;
         let mounted = self.mounted;
         let over = changeover_to(plant, f, mounted, product);
         let grams = produced(rate(plant, f, product), time);
-        s.inventory[product] = s.inventory[product] + grams.0;
-        s.ran[product] = true;
-        s.clock = self.clock_after(plant, f, product, time);
-        s.profit = pay(self.profit, 1000 * over.cents.0);
+        let mut inventory = self.inventory;
+        inventory[product] = inventory[product] + grams.0;
+        let mut ran = self.ran;
+        ran[product] = true;
+        let clock = self.clock_after(plant, f, product, time);
+        let profit = pay(self.profit, 1000 * over.cents.0);
         State {
+            inventory,
+            clock,
+            profit,
+            ran,
             mounted: Mounted::Product(product as u8),
-            ..s
+            ..self
         }
+    }
+
+    // How a run ends: stop 25, 35 or 36, or none.
+    fn slot_outcome(self, plant: &[u8], f: Shape, product: usize, time: Minutes) -> Outcome
+        requires { ⌜ (plantForm (now plant) ≡ Good f) × (product < f .products) × (time .0 < 2 ^ 16) × Roomy f self ⌝ }
+        ensures { λ r. ⌜ r ≡ slotStep (plantOf f (now (plant .entry))) (record { product = product; minutes = time .0 }) self .outcome ⌝ }
+    {
+        let ran = self.ran;
+        if ran[product] {
+            return Outcome::Stops(25);
+        }
+        if time.0 < shortest_run(plant, f) {
+            return Outcome::Stops(35);
+        }
+        let clock = self.clock_after(plant, f, product, time);
+        if week_minutes(plant, f) < clock.0 {
+            return Outcome::Stops(36);
+        }
+        Outcome::Continues
+    }
+
+    // The state after a run, by how it ends.
+    fn slot_unless(
+        self,
+        outcome: Outcome,
+        plant: &[u8],
+        f: Shape,
+        product: usize,
+        time: Minutes,
+    ) -> State
+        requires { ⌜ (plantForm (now plant) ≡ Good f) × (product < f .products) × (time .0 < 2 ^ 16) × Roomy f self
+            × (outcome ≡ slotStep (plantOf f (now plant)) (record { product = product; minutes = time .0 }) self .outcome) ⌝ }
+        ensures { λ r. ⌜ r ≡ slotStep (plantOf f (now (plant .entry))) (record { product = product; minutes = time .0 }) self .state ⌝ }
+    {
+        if let Outcome::Stops(_) = outcome {
+            return self;
+        }
+        self.slot_done(plant, f, product, time)
     }
 
     // One run: stop 25, 35 or 36, or the state after it.
@@ -254,31 +298,12 @@ impl State {
         requires { ⌜ (plantForm (now plant) ≡ Good f) × (product < f .products) × (time .0 < 2 ^ 16) × Roomy f self ⌝ }
         ensures { λ r. ⌜ r ≡ slotStep (plantOf f (now (plant .entry))) (record { product = product; minutes = time .0 }) self ⌝ }
     {
-        let s = self;
-        if s.ran[product] {
-            return Step {
-                state: s,
-                outcome: Outcome::Stops(25),
-            };
-        }
-        if time.0 < shortest_run(plant, f) {
-            return Step {
-                state: s,
-                outcome: Outcome::Stops(35),
-            };
-        }
-        let clock = s.clock_after(plant, f, product, time);
-        if week_minutes(plant, f) < clock.0 {
-            return Step {
-                state: s,
-                outcome: Outcome::Stops(36),
-            };
-        }
-        let state = s.slot_done(plant, f, product, time);
-        Step {
-            state,
-            outcome: Outcome::Continues,
-        }
+        let outcome = self.slot_outcome(plant, f, product, time);
+        let after = self.slot_unless(outcome, plant, f, product, time);
+        // A run leaves the backlog as it is; said here, its 128 numbers are copied on neither way.
+        let backlog = self.backlog;
+        let state = State { backlog, ..after };
+        Step { state, outcome }
     }
 
     // No sale exceeds the backlog and the demand.
@@ -529,10 +554,10 @@ pub fn opening_state(plant: &[u8], f: Shape) -> State
     let backlog = opening_table(plant, f);
     State {
         inventory,
-        backlog,
-        ran: [false; 16],
         clock: Minutes(0),
+        backlog,
         profit: Profit(0),
+        ran: [false; 16],
         mounted: Mounted::Nothing,
     }
 }

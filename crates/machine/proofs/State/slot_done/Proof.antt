@@ -12,17 +12,17 @@ use Rattle.machine.proofs.State.slot_done.Tie as tie
 place : (c : tie.Start) → c .args .product + 1 ≤ 16
 place c = omega (arith, counts _ _ (c .pre .0) .products)
 
-add-s : tie.Need-add-s
+add-inventory : tie.Need-add-inventory
 unfolding inventoryOf
-add-s c = omega (arith, c .before .before .before .before .before .before .pre .3 .inventory-most _ (c .before .before .before .before .before .before .pre .1))
+add-inventory c = let start = c .before .before .before .before .before .before in omega (arith, start .pre .3 .inventory-most _ (start .pre .1))
 
 returns : tie.Need-returns
 unfolding slotDone inventoryOf withInventory withWeek withProfit withMounted
 returns c =
-    let clocked = c .before .before .before .before .before .before .before in
-    let made = clocked .before .before .before in
+    let clocked = c .before .before .before in
+    let made = clocked .before .before .before .before in
     let over = made .before .before in
-    rw (← (clocked .clock-after .ensures), ← (over .changeover-to .ensures .cents), ← (c .before .before .before .before .before .pay .ensures .0))
+    rw (← (clocked .clock-after .ensures), ← (over .changeover-to .ensures .cents), ← (c .before .pay .ensures .0))
     (rw (← (made .before .rate .ensures .0), ← (made .produced .ensures .0)))
 
 pub slot-done-spec : {M : Type 1} → statement M
@@ -33,13 +33,13 @@ slot-done-spec =
     (λ c κs. search needs)
     (λ c κs. search needs)
     (λ c. search needs)
-    (λ c. omega (arith, place (c .before .before .before .before)))
-    add-s
+    (λ c. omega (arith, place (c .before .before .before .before .before)))
+    add-inventory
     (λ c. search needs)
     (λ c. omega (arith, place (c .before .before .before .before .before .before)))
-    (λ c. omega (arith, place (c .before .before .before .before .before .before)))
+    (λ c. omega (arith, place (c .before .before .before .before .before .before .before)))
     (λ c κs. search needs)
     (λ c. search needs)
     (λ c κs. search needs)
-    (λ c. omega (arith, place (c .before .before .before .before .before .before .before .before .before)))
+    (λ c. omega (arith, place (c .before .before .before .before .before .before .before .before .before .before)))
     returns)

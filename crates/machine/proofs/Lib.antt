@@ -3,6 +3,7 @@ pub mod Plants
 pub mod Flat
 pub mod Stores
 pub mod PairTables
+pub mod ProductTables
 pub mod Steps
 pub mod Runs
 pub mod Sanity

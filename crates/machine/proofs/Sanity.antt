@@ -116,7 +116,7 @@ module _ (plant : List ℕ) (f : Shape) (good : plantForm plant ≡ Good f) wher
       }
 
   module _ (sales : ℕ → ℕ → ℕ) where
-    pub inventory-sane : {w k : ℕ} {s : State} → Sane f w k s → Sane f w k (inventoryAfter (plantOf f plant) sales s)
+    inventory-sane : {w k : ℕ} {s : State} → Sane f w k s → Sane f w k (inventoryAfter (plantOf f plant) sales s)
     unfolding plantOf inventoryAfter withInventory inventoryOf
     inventory-sane {w} {k} {s} h =
         let g : ℕ → ℕ → ℕ = λ i before. before - soldOf (plantOf f plant) sales i in
@@ -131,7 +131,7 @@ module _ (plant : List ℕ) (f : Shape) (good : plantForm plant ≡ Good f) wher
           mounted-below = h .mounted-below;
         }
 
-    pub backlog-sane : {w k : ℕ} {s : State} → w < f .weeks → Sane f w k s → Sane f (w + 1) k (backlogAfter (plantOf f plant) w sales s)
+    backlog-sane : {w k : ℕ} {s : State} → w < f .weeks → Sane f w k s → Sane f (w + 1) k (backlogAfter (plantOf f plant) w sales s)
     unfolding plantOf withBacklog inventoryOf
     backlog-sane {w} {k} {s} l h =
         let n = f .customers * f .products in

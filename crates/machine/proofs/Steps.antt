@@ -4,12 +4,16 @@ use mathlib.Core.Path.{_≡_, refl, sym, ap}
 use mathlib.Core.Bool.{Bool, true, false, not}
 use mathlib.Core.List.{List}
 use native.Mathlib.Omega.{arith}
-use lib.Dec.{leb, ltb}
-use borrow.Author.Tests.{lt-ltb, le-ltb, ltb-false, leb-true, not-false}
+use lib.Dec.{ltb}
+use lib.IntN.{pos, _+ℤ_, _-ℤ_}
+use borrow.Author.Tests.{lt-ltb, le-ltb, ltb-false, not-false}
 use Rattle.mathematics.specs.Below.{within}
 use Rattle.mathematics.proofs.Below.{all-each, within-at}
 use Rattle.plant_file.specs.Plant.{Plant}
 use Rattle.slot_file.specs.Slots.{Slot}
+use Rattle.machine.specs.declared.BacklogUpdate.{BacklogUpdate}
+use Rattle.machine.specs.declared.InventoryUpdate.{InventoryUpdate}
+use Rattle.machine.specs.declared.Profit.{Profit}
 use Rattle.machine.specs.declared.State.{State}
 use Rattle.machine.specs.declared.Step.{Step}
 use Rattle.machine.specs.declared.Outcome.{Outcome}
@@ -17,7 +21,8 @@ use Rattle.machine.specs.declared.Outcome.the-variants.{Continues, Stops
 use Rattle.machine.specs.State.{inventoryOf, backlogOf, hasRun, withInventory, withBacklog, withWeek, withProfit, withMounted}
 use Rattle.machine.specs.State.{continues, stops, stopIf}
 use Rattle.machine.specs.Machine.{clockAfter, slotDone, slotStep}
-use Rattle.machine.specs.Machine.{soldOf, salesDue, salesInStock, inventoryAfter, storageKept, weekDone, weekEnd}
+use Rattle.machine.specs.Machine.{salesDue, backlogAfter, salesInStock, inventoryAfter, storageKept, booked, weekDone, weekEnd}
+use Rattle.machine.specs.Files.{BacklogUpdated, InventoryUpdated}
 
 -- a step that continues has passed its tests
 if-goes : (b : Bool) (n : ℕ) (s : State) (r : Step) (t : State) → stopIf b n s r ≡ continues t → (b ≡ false) × (r ≡ continues t)
@@ -116,16 +121,17 @@ module _ (P : Plant) (w : ℕ) (sales : ℕ → ℕ → ℕ) (s : State) where
       let d = if-goes (not (storageKept P (inventoryAfter P sales s))) 40 s _ t (b .1) in
       (continued (d .1), not-false _ (d .0))
 
+  -- the state after the week, by its two updates
+  pub week-parts : (b : BacklogUpdate) (i : InventoryUpdate) (z : Profit) → BacklogUpdated P w sales s b → InventoryUpdated P sales s i
+      → z .0 ≡ s .profit .0 +ℤ pos (b .revenue) -ℤ pos (b .charge) -ℤ pos (i .charge)
+      → _≡_ {A = State}
+      (record { inventory = i .inventory; clock = s .clock; backlog = b .backlog; profit = z; ran = s .ran; mounted = s .mounted })
+      (weekDone P w sales s)
+  unfolding weekDone booked backlogAfter inventoryAfter withProfit withBacklog withInventory inventoryOf backlogOf
+  week-parts b i z carried sold e =
+      rw (e, carried .backlog, carried .revenue, carried .charge, sold .inventory, sold .charge)
+
 module _ (P : Plant) (s : State) where
-  -- what is sold leaves the backlog as it is
-  pub due-sold : (w : ℕ) (sales : ℕ → ℕ → ℕ) → salesDue P w sales (inventoryAfter P sales s) ≡ salesDue P w sales s
-  unfolding salesDue inventoryAfter withInventory backlogOf
-  due-sold w sales = refl
-
-  pub sold-at : (sales : ℕ → ℕ → ℕ) → salesInStock P sales s ≡ true → (i : ℕ) → i < P .products → soldOf P sales i ≤ inventoryOf s i
-  unfolding salesInStock
-  sold-at sales h i l = leb-true _ _ (all-each (P .products) (λ j. leb (soldOf P sales j) (inventoryOf s j)) h i l)
-
   pub storage-at : storageKept P s ≡ true → (i : ℕ) → i < P .products → (P .leastStorage i ≤ inventoryOf s i) × (inventoryOf s i ≤ P .greatestStorage i)
   unfolding storageKept
   storage-at h i l =

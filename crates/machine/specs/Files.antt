@@ -1,5 +1,5 @@
 -- What the machine's contracts say of its two files, and the amounts that a week books. Assumes nothing.
-use Prim.Native.Nat.{ℕ, _*_, _<_}
+use Prim.Native.Nat.{ℕ, _*_, _≤_, _<_}
 use mathlib.Core.Path.{_≡_}
 use mathlib.Core.List.{List}
 use Rattle.mathematics.specs.Below.{sumBelow}
@@ -9,8 +9,11 @@ use Rattle.plant_file.specs.Plant.{Plant}
 use Rattle.plant_file.specs.Form.{plantForm}
 use Rattle.slot_file.specs.Slots.{slotsOf}
 use Rattle.slot_file.specs.Form.{slotForm}
+use Rattle.machine.specs.declared.BacklogUpdate.{BacklogUpdate}
+use Rattle.machine.specs.declared.InventoryUpdate.{InventoryUpdate}
 use Rattle.machine.specs.declared.State.{State}
 use Rattle.machine.specs.State.{inventoryOf, backlogOf}
+use Rattle.machine.specs.Machine.{salesDue, backlogAfter, salesInStock, inventoryAfter, storageKept}
 
 -- section 43 of a slot file: the sales of week w, by customer and product
 abbrev pub salesOf : Shape → List ℕ → ℕ → ℕ → ℕ → ℕ
@@ -31,3 +34,19 @@ pub record Readable (f : Shape) (plant slots : List ℕ) (w : ℕ) : Type 0 wher
   pub plant-good : plantForm plant ≡ Good f
   pub slots-good : slotForm f slots ≡ Good f
   pub week-known : w < f .weeks
+
+-- the two updates of a week's end, and the ranges of their amounts
+pub record BacklogUpdated (P : Plant) (w : ℕ) (sales : ℕ → ℕ → ℕ) (s : State) (r : BacklogUpdate) : Type 0 where
+  pub backlog : r .backlog ≡ backlogAfter P w sales s .backlog
+  pub due : r .due ≡ salesDue P w sales s
+  pub revenue : r .revenue ≡ revenueOf P sales
+  pub charge : r .charge ≡ backlogChargeOf P (backlogAfter P w sales s)
+  pub revenue-most : r .revenue ≤ 60000000000000000
+  pub charge-most : r .charge ≤ 60000000000000000
+
+pub record InventoryUpdated (P : Plant) (sales : ℕ → ℕ → ℕ) (s : State) (r : InventoryUpdate) : Type 0 where
+  pub inventory : r .inventory ≡ inventoryAfter P sales s .inventory
+  pub in-stock : r .in_stock ≡ salesInStock P sales s
+  pub kept : r .kept ≡ storageKept P (inventoryAfter P sales s)
+  pub charge : r .charge ≡ inventoryChargeOf P (inventoryAfter P sales s)
+  pub charge-most : r .charge ≤ 60000000000000000

@@ -2,7 +2,7 @@
 // stop it is the state from before the step.
 ghost use mathlib.Core.Path.{_≡_};
 ghost use mathlib.Core.Bool.{true};
-ghost use Prim.Native.Nat.{_+_, _*_, _^_, _≤_, _<_};
+ghost use Prim.Native.Nat.{_+_, _*_, _-_, _^_, _≤_, _<_};
 ghost use Rattle.mathematics.specs.Below.{sumBelow, listBelow};
 ghost use lib.IntN.{pos, _+ℤ_, _-ℤ_};
 ghost use lib.ListN.{replicate, take};
@@ -12,13 +12,12 @@ ghost use Rattle.plant_file.specs.Plant.{plantOf};
 ghost use Rattle.plant_file.specs.Form.{plantForm};
 ghost use Rattle.slot_file.specs.Slots.{slotAt, slotsBefore, slotsOf};
 ghost use Rattle.slot_file.specs.Form.{slotForm};
-ghost use Rattle.machine.specs.Machine.{weekBegin, clockAfter, slotDone, slotStep};
-ghost use Rattle.machine.specs.Machine.{salesDue, backlogAfter, salesInStock, inventoryAfter, storageKept, booked, weekEnd};
+ghost use Rattle.machine.specs.Machine.{weekBegin, clockAfter, slotDone, slotStep, weekEnd};
 ghost use Rattle.machine.specs.State.{updateRow, updateRows, andThen};
 ghost use Rattle.machine.specs.declared.Outcome.the-variants.{Continues};
 ghost use Rattle.machine.specs.Row.{slotOf, slotsIn, Runnable};
 ghost use Rattle.machine.specs.Run.{opening, runSlots, runWeek, run};
-ghost use Rattle.machine.specs.Files.{salesOf, revenueOf, backlogChargeOf, inventoryChargeOf, Readable};
+ghost use Rattle.machine.specs.Files.{salesOf, Readable, BacklogUpdated, InventoryUpdated};
 ghost use Rattle.machine.specs.Bounds.{mountedBelow, Looked, Sane, Roomy};
 use numbers::and;
 use numbers::count;
@@ -89,6 +88,23 @@ pub struct Step {
     pub outcome: Outcome,
 }
 
+// What the end of a week makes of the backlog: the new one, whether every sale is due, what the sales bring, and what it costs.
+pub struct BacklogUpdate {
+    pub backlog: [u64; 128],
+    pub due: bool,
+    pub revenue: u64,
+    pub charge: u64,
+}
+
+// What the end of a week makes of the inventory: the new one, whether the sales are in stock, whether the new one is within its limits,
+// and what it costs.
+pub struct InventoryUpdate {
+    pub inventory: [u64; 16],
+    pub in_stock: bool,
+    pub kept: bool,
+    pub charge: u64,
+}
+
 // A production run: a product and its minutes.
 pub struct Slot {
     pub product: usize,
@@ -99,6 +115,16 @@ pub struct Slot {
 pub struct Changeover {
     pub minutes: Minutes,
     pub cents: Cents,
+}
+
+// A number less another, or 0.
+fn less(a: u64, b: u64) -> u64
+    ensures { λ r. ⌜ r ≡ a - b ⌝ }
+{
+    if a < b {
+        return 0;
+    }
+    a - b
 }
 
 // The mass that a run makes: rate times minutes.
@@ -158,21 +184,6 @@ pub fn sold_of(slots: &[u8], f: Shape, product: usize, week: usize) -> u64
     while customer < customers {
         sum += sales(slots, f, customer, product, week);
         customer += 1;
-    }
-    sum
-}
-
-// What a week's sales bring.
-fn revenue(plant: &[u8], slots: &[u8], f: Shape, week: usize) -> u64
-    requires { ⌜ Readable f (now plant) (now slots) week ⌝ }
-    ensures { λ r. ⌜ (r ≡ revenueOf (plantOf f (now (plant .entry))) (salesOf f (now (slots .entry)) week)) × (r ≤ 60000000000000000) ⌝ }
-{
-    let pairs = area(f.customers, f.products);
-    let mut sum = 0;
-    let mut pair = 0;
-    while pair < pairs {
-        sum += pair_price(plant, f, pair) * pair_sales(slots, f, pair, week);
-        pair += 1;
     }
     sum
 }
@@ -306,132 +317,64 @@ impl State {
         Step { state, outcome }
     }
 
-    // No sale exceeds the backlog and the demand.
-    fn sales_due(self, plant: &[u8], slots: &[u8], f: Shape, week: usize) -> bool
+    // The demand added to the backlog and the sales taken from it, pair by pair.
+    fn backlog_update(self, plant: &[u8], slots: &[u8], f: Shape, week: usize) -> BacklogUpdate
         requires { ⌜ Readable f (now plant) (now slots) week × Roomy f self ⌝ }
-        ensures { λ r. ⌜ r ≡ salesDue (plantOf f (now (plant .entry))) week (salesOf f (now (slots .entry)) week) self ⌝ }
+        ensures { λ r. ⌜ BacklogUpdated (plantOf f (now (plant .entry))) week (salesOf f (now (slots .entry)) week) self r ⌝ }
     {
-        let s = self;
         let pairs = area(f.customers, f.products);
-        let mut ok = true;
+        let mut backlog = self.backlog;
+        let mut due = true;
+        let mut revenue = 0;
+        let mut charge = 0;
         let mut pair = 0;
         while pair < pairs {
-            let due = s.backlog[pair] + pair_demand(plant, f, pair, week);
-            ok = and(ok, pair_sales(slots, f, pair, week) <= due);
+            let owed = backlog[pair] + pair_demand(plant, f, pair, week);
+            let sold = pair_sales(slots, f, pair, week);
+            due = and(due, sold <= owed);
+            let left = less(owed, sold);
+            backlog[pair] = left;
+            revenue += pair_price(plant, f, pair) * sold;
+            charge += pair_backlog_cost(plant, f, pair) * left;
             pair += 1;
         }
-        ok
-    }
-
-    // No product's sales exceed its inventory.
-    fn sales_in_stock(self, plant: &[u8], slots: &[u8], f: Shape, week: usize) -> bool
-        requires { ⌜ Readable f (now plant) (now slots) week ⌝ }
-        ensures { λ r. ⌜ r ≡ salesInStock (plantOf f (now (plant .entry))) (salesOf f (now (slots .entry)) week) self ⌝ }
-    {
-        let s = self;
-        let products = count(f.products);
-        let mut ok = true;
-        let mut product = 0;
-        while product < products {
-            ok = and(ok, sold_of(slots, f, product, week) <= s.inventory[product]);
-            product += 1;
+        BacklogUpdate {
+            backlog,
+            due,
+            revenue,
+            charge,
         }
-        ok
     }
 
-    // No inventory is outside its limits.
-    fn storage_kept(self, plant: &[u8], f: Shape) -> bool
-        requires { ⌜ plantForm (now plant) ≡ Good f ⌝ }
-        ensures { λ r. ⌜ r ≡ storageKept (plantOf f (now (plant .entry))) self ⌝ }
+    // The sales taken from the inventory, product by product.
+    fn inventory_update(self, plant: &[u8], slots: &[u8], f: Shape, week: usize) -> InventoryUpdate
+        requires { ⌜ Readable f (now plant) (now slots) week × Roomy f self ⌝ }
+        ensures { λ r. ⌜ InventoryUpdated (plantOf f (now (plant .entry))) (salesOf f (now (slots .entry)) week) self r ⌝ }
     {
-        let s = self;
         let products = count(f.products);
-        let mut ok = true;
+        let mut inventory = self.inventory;
+        let mut in_stock = true;
+        let mut kept = true;
+        let mut charge = 0;
         let mut product = 0;
         while product < products {
+            let sold = sold_of(slots, f, product, week);
+            let before = inventory[product];
+            in_stock = and(in_stock, sold <= before);
+            let left = less(before, sold);
             let least = least_storage(plant, f, product);
             let greatest = greatest_storage(plant, f, product);
-            ok = and(ok, inside(least, greatest, s.inventory[product]));
+            kept = and(kept, inside(least, greatest, left));
+            inventory[product] = left;
+            charge += inventory_cost(plant, f, product) * left;
             product += 1;
         }
-        ok
-    }
-
-    // The sales taken from the inventory.
-    fn inventory_after(self, plant: &[u8], slots: &[u8], f: Shape, week: usize) -> State
-        requires { ⌜ Readable f (now plant) (now slots) week × (salesInStock (plantOf f (now plant)) (salesOf f (now slots) week) self ≡ true) ⌝ }
-        ensures { λ r. ⌜ r ≡ inventoryAfter (plantOf f (now (plant .entry))) (salesOf f (now (slots .entry)) week) self ⌝ }
-    {
-        let mut s = self;
-        let products = count(f.products);
-        let mut product = 0;
-        while product < products {
-            s.inventory[product] = s.inventory[product] - sold_of(slots, f, product, week);
-            product += 1;
+        InventoryUpdate {
+            inventory,
+            in_stock,
+            kept,
+            charge,
         }
-        s
-    }
-
-    // The demand added to the backlog, and the sales taken from it.
-    fn backlog_after(self, plant: &[u8], slots: &[u8], f: Shape, week: usize) -> State
-        requires { ⌜ Readable f (now plant) (now slots) week × Roomy f self
-            × (salesDue (plantOf f (now plant)) week (salesOf f (now slots) week) self ≡ true) ⌝ }
-        ensures { λ r. ⌜ r ≡ backlogAfter (plantOf f (now (plant .entry))) week (salesOf f (now (slots .entry)) week) self ⌝ }
-    {
-        let mut s = self;
-        let pairs = area(f.customers, f.products);
-        let mut pair = 0;
-        while pair < pairs {
-            let due = s.backlog[pair] + pair_demand(plant, f, pair, week);
-            s.backlog[pair] = due - pair_sales(slots, f, pair, week);
-            pair += 1;
-        }
-        s
-    }
-
-    // What the backlog costs for a week.
-    fn backlog_charge(self, plant: &[u8], f: Shape) -> u64
-        requires { ⌜ (plantForm (now plant) ≡ Good f) × Roomy f self ⌝ }
-        ensures { λ r. ⌜ (r ≡ backlogChargeOf (plantOf f (now (plant .entry))) self) × (r ≤ 60000000000000000) ⌝ }
-    {
-        let s = self;
-        let pairs = area(f.customers, f.products);
-        let mut sum = 0;
-        let mut pair = 0;
-        while pair < pairs {
-            sum += pair_backlog_cost(plant, f, pair) * s.backlog[pair];
-            pair += 1;
-        }
-        sum
-    }
-
-    // What the inventory costs for a week.
-    fn inventory_charge(self, plant: &[u8], f: Shape) -> u64
-        requires { ⌜ (plantForm (now plant) ≡ Good f) × Roomy f self ⌝ }
-        ensures { λ r. ⌜ (r ≡ inventoryChargeOf (plantOf f (now (plant .entry))) self) × (r ≤ 60000000000000000) ⌝ }
-    {
-        let s = self;
-        let products = count(f.products);
-        let mut sum = 0;
-        let mut product = 0;
-        while product < products {
-            sum += inventory_cost(plant, f, product) * s.inventory[product];
-            product += 1;
-        }
-        sum
-    }
-
-    // The week's amounts booked to the profit.
-    fn booked(self, plant: &[u8], slots: &[u8], f: Shape, week: usize) -> State
-        requires { ⌜ Readable f (now plant) (now slots) week × Roomy f self ⌝ }
-        ensures { λ r. ⌜ r ≡ booked (plantOf f (now (plant .entry))) (salesOf f (now (slots .entry)) week) self ⌝ }
-    {
-        let mut s = self;
-        let gains = revenue(plant, slots, f, week);
-        let late = self.backlog_charge(plant, f);
-        let held = self.inventory_charge(plant, f);
-        s.profit = pay(pay(gain(self.profit, gains), late), held);
-        s
     }
 
     // The end of a week: stop 38, 39 or 40, or the state after it.
@@ -439,27 +382,38 @@ impl State {
         requires { ⌜ Readable f (now plant) (now slots) week × Sane f week 16 self ⌝ }
         ensures { λ r. ⌜ r ≡ weekEnd (plantOf f (now (plant .entry))) week (salesOf f (now (slots .entry)) week) self ⌝ }
     {
-        if !self.sales_due(plant, slots, f, week) {
+        let carried = self.backlog_update(plant, slots, f, week);
+        if !carried.due {
             return Step {
                 state: self,
                 outcome: Outcome::Stops(38),
             };
         }
-        if !self.sales_in_stock(plant, slots, f, week) {
+        let sold = self.inventory_update(plant, slots, f, week);
+        if !sold.in_stock {
             return Step {
                 state: self,
                 outcome: Outcome::Stops(39),
             };
         }
-        let sold = self.inventory_after(plant, slots, f, week);
-        if !sold.storage_kept(plant, f) {
+        if !sold.kept {
             return Step {
                 state: self,
                 outcome: Outcome::Stops(40),
             };
         }
-        let carried = sold.backlog_after(plant, slots, f, week);
-        let state = carried.booked(plant, slots, f, week);
+        let profit = pay(
+            pay(gain(self.profit, carried.revenue), carried.charge),
+            sold.charge,
+        );
+        let inventory = sold.inventory;
+        let backlog = carried.backlog;
+        let state = State {
+            inventory,
+            backlog,
+            profit,
+            ..self
+        };
         Step {
             state,
             outcome: Outcome::Continues,

@@ -60,17 +60,12 @@ module _ (P : Plant) (S : Slots) (w : ℕ) (s : State) (r : Step) (e : r ≡ run
   unfolding runWeek
   week-go q = rw (← e) (then-goes r (weekEnd P w (λ c i. S .sales c i w)) q)
 
--- ---- weeks, from week w of n on
-module _ (P : Plant) (S : Slots) (n w : ℕ) (s : State) where
-  pub weeks-end : n ≤ w → runWeeks P S (n - w) w s ≡ continues s
-  weeks-end h = let e : n - w ≡ 0 = omega arith in rw e
+-- ---- weeks, after r, from week w of n on
+module _ (P : Plant) (S : Slots) (n w : ℕ) (r : Step) where
+  pub weeks-end : n ≤ w → andThen r (runWeeks P S (n - w) w) ≡ r
+  weeks-end h = let e : n - w ≡ 0 = omega arith in rw e (then-ends r)
 
-  module _ (r : Step) (l : w < n) (e : r ≡ runWeek P S w s) where
-    next-week : runWeeks P S (n - w) w s ≡ andThen r (runWeeks P S (n - (w + 1)) (w + 1))
-    next-week = let q : n - w ≡ suc (n - (w + 1)) = omega arith in rw (q, ← e)
-
-    pub weeks-stop : (m : ℕ) → r .outcome ≡ Stops m → runWeeks P S (n - w) w s ≡ r
-    weeks-stop m q = next-week ∙ then-stops r (runWeeks P S (n - (w + 1)) (w + 1)) m q
-
-    pub weeks-go : r .outcome ≡ Continues → runWeeks P S (n - w) w s ≡ runWeeks P S (n - (w + 1)) (w + 1) (r .state)
-    weeks-go q = next-week ∙ then-goes r (runWeeks P S (n - (w + 1)) (w + 1)) q
+  pub weeks-next : w < n → andThen (andThen r (runWeek P S w)) (runWeeks P S (n - (w + 1)) (w + 1)) ≡ andThen r (runWeeks P S (n - w) w)
+  weeks-next l =
+      let q : n - w ≡ suc (n - (w + 1)) = omega arith in
+      rw q (then-then r (runWeek P S w) (runWeeks P S (n - (w + 1)) (w + 1)))

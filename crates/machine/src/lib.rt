@@ -516,27 +516,36 @@ pub fn opening_state(plant: &[u8], f: Shape) -> State
     }
 }
 
+// The next week; a run that has stopped stays as it is.
+fn week_after(r: Step, plant: &[u8], slots: &[u8], f: Shape, week: usize, first: usize) -> Step
+    requires { ⌜ Readable f (now plant) (now slots) week × (first ≡ slotsBefore (now slots) week)
+        × (r .outcome ≡ Continues → Sane f week 0 (r .state)) ⌝ }
+    ensures { λ q. ⌜ q ≡ andThen r (runWeek (plantOf f (now (plant .entry))) (slotsOf f (now (slots .entry))) week) ⌝ }
+{
+    let outcome = r.outcome;
+    if let Outcome::Stops(_) = outcome {
+        return r;
+    }
+    r.state.run_week(plant, slots, f, week, first)
+}
+
 // The run of a slot file; the first stop ends it.
 pub fn run(plant: &[u8], slots: &[u8], f: Shape) -> Step
     requires { ⌜ (plantForm (now plant) ≡ Good f) × (slotForm f (now slots) ≡ Good f) ⌝ }
     ensures { λ r. ⌜ r ≡ run (plantOf f (now (plant .entry))) (slotsOf f (now (slots .entry))) ⌝ }
 {
     let weeks = count(f.weeks);
-    let mut s = opening_state(plant, f);
+    let state = opening_state(plant, f);
+    let mut r = Step {
+        state,
+        outcome: Outcome::Continues,
+    };
     let mut first = 0;
     let mut week = 0;
     while week < weeks {
-        let r = s.run_week(plant, slots, f, week, first);
-        let outcome = r.outcome;
-        if let Outcome::Stops(_) = outcome {
-            return r;
-        }
-        s = r.state;
+        r = week_after(r, plant, slots, f, week, first);
         first += slot_count(slots, f, week);
         week += 1;
     }
-    Step {
-        state: s,
-        outcome: Outcome::Continues,
-    }
+    r
 }

@@ -1,6 +1,6 @@
 -- How a slot and the end of a week end, by their tests, and what the week's tests say of each product. Assumes nothing.
 use Prim.Native.Nat.{ℕ, _≤_, _<_}
-use mathlib.Core.Path.{_≡_, refl, sym, ap}
+use mathlib.Core.Path.{_≡_, refl, sym, ap, _∙_}
 use mathlib.Core.Bool.{Bool, true, false, not}
 use mathlib.Core.List.{List}
 use native.Mathlib.Omega.{arith}
@@ -21,7 +21,7 @@ use Rattle.machine.specs.declared.Outcome.the-variants.{Continues, Stops
 use Rattle.machine.specs.State.{inventoryOf, backlogOf, hasRun, withInventory, withBacklog, withWeek, withProfit, withMounted}
 use Rattle.machine.specs.State.{continues, stops, stopIf}
 use Rattle.machine.specs.Machine.{clockAfter, slotDone, slotStep}
-use Rattle.machine.specs.Machine.{salesDue, backlogAfter, salesInStock, inventoryAfter, storageKept, booked, weekDone, weekEnd}
+use Rattle.machine.specs.Machine.{salesDue, backlogAfter, salesInStock, inventoryAfter, storageKept, booked, weekDone, weekOutcome, weekEnd}
 use Rattle.machine.specs.Files.{BacklogUpdated, InventoryUpdated}
 
 -- a step that continues has passed its tests
@@ -30,6 +30,9 @@ if-goes true n s r t e =
     let o : Stops n ≡ Continues = ap (λ (x : Step). x .outcome) e in
     absurd (let z : _≡_ {A = ℕ} 0 1 = cc in omega arith)
 if-goes false n s r t e = (refl, e)
+
+no-stop : {n : ℕ} → Continues ≡ Stops n → ⊥
+no-stop e = let z : _≡_ {A = ℕ} 0 1 = cc in omega arith
 
 -- one that stops leaves the state as it was
 if-stays : (b : Bool) (n : ℕ) (s : State) (r : Step) (m : ℕ) → (r .outcome ≡ Stops m → r .state ≡ s)
@@ -95,23 +98,45 @@ module _ (P : Plant) (x : Slot) (s : State) where
       rw (e, q) (ap {B = Step} (λ (l : List ℕ). record { state = withBacklog (r .state) l; outcome = r .outcome }) (sym slot-backlog))
 
 module _ (P : Plant) (w : ℕ) (sales : ℕ → ℕ → ℕ) (s : State) where
-  pub week-undue : salesDue P w sales s ≡ false → weekEnd P w sales s ≡ stops s 38
+  week-undue : salesDue P w sales s ≡ false → weekEnd P w sales s ≡ stops s 38
   unfolding weekEnd
   week-undue a = rw a
 
-  pub week-oversold : salesDue P w sales s ≡ true → salesInStock P sales s ≡ false → weekEnd P w sales s ≡ stops s 39
+  week-oversold : salesDue P w sales s ≡ true → salesInStock P sales s ≡ false → weekEnd P w sales s ≡ stops s 39
   unfolding weekEnd
   week-oversold a b = rw (a, b)
 
-  pub week-unkept : salesDue P w sales s ≡ true → salesInStock P sales s ≡ true → storageKept P (inventoryAfter P sales s) ≡ false
+  week-unkept : salesDue P w sales s ≡ true → salesInStock P sales s ≡ true → storageKept P (inventoryAfter P sales s) ≡ false
       → weekEnd P w sales s ≡ stops s 40
   unfolding weekEnd
   week-unkept a b k = rw (a, b, k)
 
-  pub week-goes : salesDue P w sales s ≡ true → salesInStock P sales s ≡ true → storageKept P (inventoryAfter P sales s) ≡ true
+  week-goes : salesDue P w sales s ≡ true → salesInStock P sales s ≡ true → storageKept P (inventoryAfter P sales s) ≡ true
       → weekEnd P w sales s ≡ continues (weekDone P w sales s)
   unfolding weekEnd
   week-goes a b k = rw (a, b, k)
+
+  -- the same by the outcome of the three tests
+  module _ (a b k : Bool) (due : a ≡ salesDue P w sales s) (stock : b ≡ salesInStock P sales s) (kept : k ≡ storageKept P (inventoryAfter P sales s)) where
+    pub week-stops : (o : Outcome) (n : ℕ) → o ≡ weekOutcome a b k → o ≡ Stops n → record { state = s; outcome = o } ≡ weekEnd P w sales s
+    week-stops o n e d = (λ u. record { state = s; outcome = e u }) ∙ go a b k due stock kept (sym e ∙ d)
+      where
+        go : (a b k : Bool) → a ≡ salesDue P w sales s → b ≡ salesInStock P sales s → k ≡ storageKept P (inventoryAfter P sales s)
+            → weekOutcome a b k ≡ Stops n → record { state = s; outcome = weekOutcome a b k } ≡ weekEnd P w sales s
+        go false b k x y z r = sym (week-undue (sym x))
+        go true false k x y z r = sym (week-oversold (sym x) (sym y))
+        go true true false x y z r = sym (week-unkept (sym x) (sym y) (sym z))
+        go true true true x y z r = absurd (no-stop r)
+
+    pub week-continues : (o : Outcome) → o ≡ weekOutcome a b k → o ≡ Continues → weekEnd P w sales s ≡ continues (weekDone P w sales s)
+    week-continues o e d = go a b k due stock kept (sym e ∙ d)
+      where
+        go : (a b k : Bool) → a ≡ salesDue P w sales s → b ≡ salesInStock P sales s → k ≡ storageKept P (inventoryAfter P sales s)
+            → weekOutcome a b k ≡ Continues → weekEnd P w sales s ≡ continues (weekDone P w sales s)
+        go false b k x y z r = absurd (no-stop (sym r))
+        go true false k x y z r = absurd (no-stop (sym r))
+        go true true false x y z r = absurd (no-stop (sym r))
+        go true true true x y z r = week-goes (sym x) (sym y) (sym z)
 
   pub week-went : (t : State) → weekEnd P w sales s ≡ continues t → (t ≡ weekDone P w sales s) × (storageKept P (inventoryAfter P sales s) ≡ true)
   unfolding weekEnd

@@ -9,6 +9,8 @@ use Rattle.plant_file.specs.Plant.{Plant}
 use Rattle.slot_file.specs.Slots.{Slot}
 use Rattle.machine.specs.declared.Mounted.{Mounted}
 use Rattle.machine.specs.declared.Mounted.the-variants.{Nothing, Product}
+use Rattle.machine.specs.declared.Outcome.{Outcome}
+use Rattle.machine.specs.declared.Outcome.the-variants.{Continues, Stops}
 use Rattle.machine.specs.declared.State.{State}
 use Rattle.machine.specs.declared.Step.{Step}
 use Rattle.machine.specs.State.{inventoryOf, backlogOf, hasRun, withInventory, withBacklog, withWeek, withProfit, withMounted}
@@ -85,6 +87,13 @@ booked P sales s =
 -- the state after the week, where nothing stops. (Backlog and inventory do not meet: their order does not matter.)
 unfoldable pub weekDone : Plant → ℕ → (ℕ → ℕ → ℕ) → State → State
 weekDone P w sales s = booked P sales (backlogAfter P w sales (inventoryAfter P sales s))
+
+-- the first of the three tests that fails: 38, 39, 40
+abbrev pub weekOutcome : (due inStock kept : Bool) → Outcome
+weekOutcome false inStock kept = Stops 38
+weekOutcome true false kept = Stops 39
+weekOutcome true true false = Stops 40
+weekOutcome true true true = Continues
 
 -- a round meets each cell once and has one number, so it stops exactly if its test fails at some cell; 38, then 39, then 40
 unfoldable pub weekEnd : Plant → ℕ → (ℕ → ℕ → ℕ) → State → Step

@@ -12,7 +12,7 @@ ghost use Rattle.plant_file.specs.Plant.{plantOf};
 ghost use Rattle.plant_file.specs.Form.{plantForm};
 ghost use Rattle.slot_file.specs.Slots.{slotAt, slotsBefore, slotsOf};
 ghost use Rattle.slot_file.specs.Form.{slotForm};
-ghost use Rattle.machine.specs.Machine.{weekBegin, clockAfter, slotDone, slotStep, weekEnd};
+ghost use Rattle.machine.specs.Machine.{weekBegin, clockAfter, slotDone, slotStep, weekOutcome, weekEnd};
 ghost use Rattle.machine.specs.State.{updateRow, updateRows, andThen};
 ghost use Rattle.machine.specs.declared.Outcome.the-variants.{Continues};
 ghost use Rattle.machine.specs.Row.{slotOf, slotsIn, Runnable};
@@ -208,6 +208,22 @@ fn slot_row(slots: &[u8], f: Shape, first: usize, count: usize) -> [Slot; 16]
     row
 }
 
+// The outcome of a week's end: the number of the first test that fails.
+fn week_outcome(due: bool, in_stock: bool, kept: bool) -> Outcome
+    ensures { λ r. ⌜ r ≡ weekOutcome due in_stock kept ⌝ }
+{
+    if !due {
+        return Outcome::Stops(38);
+    }
+    if !in_stock {
+        return Outcome::Stops(39);
+    }
+    if !kept {
+        return Outcome::Stops(40);
+    }
+    Outcome::Continues
+}
+
 // The next slot; a run that has stopped stays as it is.
 fn slot_after(r: Step, plant: &[u8], f: Shape, slot: Slot) -> Step
     requires { ⌜ (plantForm (now plant) ≡ Good f) × (slot .product < f .products) × (slot .minutes .0 < 2 ^ 16)
@@ -383,23 +399,12 @@ impl State {
         ensures { λ r. ⌜ r ≡ weekEnd (plantOf f (now (plant .entry))) week (salesOf f (now (slots .entry)) week) self ⌝ }
     {
         let carried = self.backlog_update(plant, slots, f, week);
-        if !carried.due {
-            return Step {
-                state: self,
-                outcome: Outcome::Stops(38),
-            };
-        }
         let sold = self.inventory_update(plant, slots, f, week);
-        if !sold.in_stock {
+        let outcome = week_outcome(carried.due, sold.in_stock, sold.kept);
+        if let Outcome::Stops(_) = outcome {
             return Step {
                 state: self,
-                outcome: Outcome::Stops(39),
-            };
-        }
-        if !sold.kept {
-            return Step {
-                state: self,
-                outcome: Outcome::Stops(40),
+                outcome,
             };
         }
         let profit = pay(

@@ -302,7 +302,7 @@ impl State {
     }
 
     // The state after a run, by how it ends.
-    fn slot_unless(
+    fn slot_state(
         self,
         outcome: Outcome,
         plant: &[u8],
@@ -326,7 +326,7 @@ impl State {
         ensures { λ r. ⌜ r ≡ slotStep (plantOf f (now (plant .entry))) (record { product = product; minutes = time .0 }) self ⌝ }
     {
         let outcome = self.slot_outcome(plant, f, product, time);
-        let after = self.slot_unless(outcome, plant, f, product, time);
+        let after = self.slot_state(outcome, plant, f, product, time);
         // A run leaves the backlog as it is; said here, its 128 numbers are copied on neither way.
         let backlog = self.backlog;
         let state = State { backlog, ..after };

@@ -189,7 +189,8 @@ fn write_production(out: &mut [u8], plant: &[u8], slots: &[u8], f: Shape, week: 
 fn write_backlog(out: &mut [u8], plant: &[u8], slots: &[u8], f: Shape, pair: usize)
     requires { ⌜ Ran f (now plant) (now slots) × (pair < f .customers * f .products) × (4 * f .weeks ≤ length (now out)) ⌝ }
     ensures { λ _. ⌜ now (out .exit) ≡ store (now (out .entry)) 0
-        (encode 4 (f .weeks) (runTables (plantOf f (now (plant .entry))) (slotsOf f (now (slots .entry))) .backlog (pair / f .products) (pair % f .products))) ⌝ }
+        (encode 4 (f .weeks) (runTables (plantOf f (now (plant .entry))) (slotsOf f (now (slots .entry)))
+        .backlog (pair / f .products) (pair % f .products))) ⌝ }
 {
     let weeks = count(f.weeks);
     let mut backlog = pair_opening_backlog(plant, f, pair);

@@ -18,7 +18,9 @@ returns c =
     let w = c .count2 .result in
     let e : getD (columnCounts n nn w) place 0 ≡ columnsIn (s .args .f) place =
     λ u. getD (columnCounts (c .before .before .count .ensures .0 u) (c .before .area .ensures .0 u) (c .count2 .ensures .0 u)) place 0 in
-    (e, columns-most n nn w place (omega (arith, c .before .before .count .ensures)) (omega (arith, c .before .area .ensures)) (omega (arith, c .count2 .ensures)))
+    let most = columns-most n nn w place (omega (arith, c .before .before .count .ensures)) (omega (arith, c .before .area .ensures))
+    (omega (arith, c .count2 .ensures)) in
+    (e, most)
 
 pub columns-of-spec : {M : Type 1} → statement M
 columns-of-spec =

@@ -36,7 +36,9 @@ add-result c =
 returns : tie.Need-returns
 returns c =
     let s = c .before .before .before in
-    λ l. (λ u. s .pre .2 l u + c .slot-count .ensures .0 u) ∙ (sym (before-next (s .args .slots .now) (s .args .r)) ∙ ap (slotsBefore (s .args .slots .now)) (sym (add-one (s .args .r))))
+    let slots = s .args .slots .now in
+    let r = s .args .r in
+    λ l. (λ u. s .pre .2 l u + c .slot-count .ensures .0 u) ∙ (sym (before-next slots r) ∙ ap (slotsBefore slots) (sym (add-one r)))
 
 pub first-after-spec : {M : Type 1} → statement M
 first-after-spec = tie.close (tie.spec slot-count-requires add-result returns (λ c. search needs))

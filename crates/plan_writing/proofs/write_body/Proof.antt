@@ -26,13 +26,17 @@ write-sales-requires c κs = let s = c .before .before .before .before .before i
 
 returns : tie.Need-returns
 unfolding planBodies runTables
-returns c = let s = c .before .before .before .before .before .before .before .before in c .before .before .write-sales .ensures ∙ ap (store (s .args .out .now) 0) (ap (body s) (sym (c .before .before .before .before .if1 .taken)))
+returns c =
+    let s = c .before .before .before .before .before .before .before .before in
+    c .before .before .write-sales .ensures ∙ ap (store (s .args .out .now) 0) (ap (body s) (sym (c .before .before .before .before .if1 .taken)))
 
 write-inventory-requires : tie.Need-write-inventory-requires
 write-inventory-requires c κs = let s = c .before .before .before .before .before .before in (s .pre .0, room s 9 (c .before .if2 .taken))
 
 returns-2 : tie.Need-returns-2
-returns-2 c = let s = c .before .before .before .before .before .before .before .before .before in c .before .before .write-inventory .ensures ∙ ap (store (s .args .out .now) 0) (ap (body s) (sym (c .before .before .before .before .if2 .taken)))
+returns-2 c =
+    let s = c .before .before .before .before .before .before .before .before .before in
+    c .before .before .write-inventory .ensures ∙ ap (store (s .args .out .now) 0) (ap (body s) (sym (c .before .before .before .before .if2 .taken)))
 
 write-requires : tie.Need-write-requires
 write-requires c κs = omega (arith, room (c .before .before .before .before .before .before .before) 11 (c .before .if3 .taken))
@@ -41,7 +45,8 @@ returns-3 : tie.Need-returns-3
 unfolding planBodies
 returns-3 c =
     let s = c .before .before .before .before .before .before .before .before .before .before in
-    c .before .before .write .ensures ∙ ap (store (s .args .out .now) 0) (ap (digits 8) (s .pre .1) ∙ ap (body s) (sym (c .before .before .before .before .if3 .taken)))
+    let place = c .before .before .before .before .if3 .taken in
+    c .before .before .write .ensures ∙ ap (store (s .args .out .now) 0) (ap (digits 8) (s .pre .1) ∙ ap (body s) (sym place))
 
 pub write-body-spec : {M : Type 1} → statement M
 write-body-spec =

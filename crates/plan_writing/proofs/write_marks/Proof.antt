@@ -76,7 +76,8 @@ module _ (c : tie.After-shown-from Inv-loop μ-loop) where
       ∙ omega arith)) in
       c .before .before .before .before .before .before .before .clear .ensures
       ∙ ap (store (start .args .out .now) 0)
-      (ap (λ (m : ℕ). replicate {A = ℕ} m 0) (c .before .before .before .before .before .before .before .before .columns-of .ensures .0 ∙ one) ∙ (zero-table 1 n ∙ encode-ext 1 n _ _ (λ j l. none j)))
+      (ap (λ (m : ℕ). replicate {A = ℕ} m 0) (c .before .before .before .before .before .before .before .before .columns-of .ensures .0 ∙ one)
+      ∙ (zero-table 1 n ∙ encode-ext 1 n _ _ (λ j l. none j)))
 
 -- slot k
 module _ (d : tie.In-loop Inv-loop μ-loop) where
@@ -122,7 +123,8 @@ module _ (e : tie.After-slot-product2 Inv-loop μ-loop) where
   cell-inside : (here d) .before .before .before .stride-of .result * e .slot-product2 .result + e .before .before .slot-product .result
       < columnsIn (start (here d) .args .f) (place (here d))
   cell-inside =
-      let b = cell-below (start (here d) .args .f) (place (here d)) (e .slot-product2 .result) (e .before .before .slot-product .result) (start (here d) .pre .1)
+      let b = cell-below (start (here d) .args .f) (place (here d)) (e .slot-product2 .result)
+      (e .before .before .slot-product .result) (start (here d) .pre .1)
       (e .slot-product2 .ensures .1) (e .before .before .slot-product .ensures .1) in
       let e : (here d) .before .before .before .stride-of .result * e .slot-product2 .result + e .before .before .slot-product .result
       ≡ strideIn (start (here d) .args .f .products) (place (here d)) * e .slot-product2 .result + e .before .before .slot-product .result =

@@ -81,11 +81,13 @@ returns g =
     let total = slotCount (a .slots .now) (a .week) in
     let all : b .k ≡ total = omega (arith, g .loop-test .left, g .before .before .slot-count .ensures .0) in
     let begun = g .before .before .before .before .before .clear .ensures
-    ∙ ap (store (a .out .now) 0) (ap (λ (m : ℕ). replicate {A = ℕ} (2 * m) 0) (g .before .before .before .before .before .before .count .ensures .0) ∙ zero-table 2 n) in
+    ∙ ap (store (a .out .now) 0)
+    (ap (λ (m : ℕ). replicate {A = ℕ} (2 * m) 0) (g .before .before .before .before .before .before .count .ensures .0) ∙ zero-table 2 n) in
     b .inv .2 (a .out .now) begun
     ∙ ap (store (a .out .now) 0)
     (encode-ext 2 n _ _
-    (λ j l. ap (λ (x : ℕ). minutes (a .slots .now) (a .week) x j) all ∙ (sum-ext total _ _ (λ u m. mul-comm (slotIn (a .slots .now) (a .week) u .minutes) (is (slotIn (a .slots .now) (a .week) u .product) j))
+    (λ j l. ap (λ (x : ℕ). minutes (a .slots .now) (a .week) x j) all
+    ∙ (sum-ext total _ _ (λ u m. mul-comm (slotIn (a .slots .now) (a .week) u .minutes) (is (slotIn (a .slots .now) (a .week) u .product) j))
     ∙ sym (minutes-sum total (slotIn (a .slots .now) (a .week)) j))))
 
 pub write-minutes-spec : {M : Type 1} → statement M

@@ -26,7 +26,8 @@ made rate slots week = stored (λ u. rate (slotIn slots week u .product) * slotI
 abbrev Inv-loop : tie.InvT-loop
 Inv-loop out₀ plant slots f week first total k₀ out k =
     (k ≤ total) × (length out ≡ length out₀)
-    × ((s : List ℕ) → out₀ ≡ store s 0 (encode 4 (f .products) (λ j. 0)) → out ≡ store s 0 (encode 4 (f .products) (made (plantOf f plant .line .rate) slots week k)))
+    × ((s : List ℕ) → out₀ ≡ store s 0 (encode 4 (f .products) (λ j. 0))
+    → out ≡ store s 0 (encode 4 (f .products) (made (plantOf f plant .line .rate) slots week k)))
 
 abbrev μ-loop : tie.MeasureT-loop
 μ-loop out₀ plant slots f week first total k₀ out k = total - k
@@ -61,12 +62,15 @@ loop-again q =
     let g = e .before .before .before .before in
     let a = start g .args in
     let product-is = e .before .before .before .slot-product .ensures .0 ∙ ap (λ (j : ℕ). slotAt (slots g) j .product) (place-is g) in
+    let rate = plantOf (a .f) (a .plant .now) .line .rate in
     let minutes-is = e .before .before .slot-minutes .ensures .0 ∙ ap (λ (j : ℕ). slotAt (slots g) j .minutes) (place-is g) in (
       search needs,
       search needs,
       λ s h. q .before .before .write .ensures
-          ∙ slot-stored (λ u. plantOf (a .f) (a .plant .now) .line .rate (slotIn (slots g) (a .week) u .product) * slotIn (slots g) (a .week) u .minutes) (λ u. slotIn (slots g) (a .week) u .product) 4 (k g) (a .f .products) _ _ s
-          (g .before .loop .out) (g .before .loop .inv .2 s h) (ap (λ (x : ℕ). 4 * x) product-is) ((λ u. (e .rate .ensures .0 ∙ ap (plantOf (a .f) (a .plant .now) .line .rate) product-is) u * minutes-is u))
+          ∙ slot-stored (λ u. rate (slotIn (slots g) (a .week) u .product) * slotIn (slots g) (a .week) u .minutes)
+          (λ u. slotIn (slots g) (a .week) u .product) 4 (k g) (a .f .products) _ _ s
+          (g .before .loop .out) (g .before .loop .inv .2 s h) (ap (λ (x : ℕ). 4 * x) product-is)
+          (λ u. (e .rate .ensures .0 ∙ ap rate product-is) u * minutes-is u)
           (omega (arith, product-is, e .before .before .before .slot-product .ensures .1)) (λ u l. start g .pre .1 .once u (k g) l (k-below g)),
     )
 
@@ -80,11 +84,13 @@ returns g =
     let total = slotCount (a .slots .now) (a .week) in
     let all : b .k ≡ total = omega (arith, g .loop-test .left, g .before .before .slot-count .ensures .0) in
     let begun = g .before .before .before .before .before .clear .ensures
-    ∙ ap (store (a .out .now) 0) (ap (λ (m : ℕ). replicate {A = ℕ} (4 * m) 0) (g .before .before .before .before .before .before .count .ensures .0) ∙ zero-table 4 n) in
+    ∙ ap (store (a .out .now) 0)
+    (ap (λ (m : ℕ). replicate {A = ℕ} (4 * m) 0) (g .before .before .before .before .before .before .count .ensures .0) ∙ zero-table 4 n) in
     b .inv .2 (a .out .now) begun
     ∙ ap (store (a .out .now) 0)
     (encode-ext 4 n _ _
-    (λ j l. ap (λ (x : ℕ). made (plantOf (a .f) (a .plant .now) .line .rate) (a .slots .now) (a .week) x j) all ∙ (made-sum total (slotIn (a .slots .now) (a .week)) (plantOf (a .f) (a .plant .now) .line .rate) j
+    (λ j l. ap (λ (x : ℕ). made (plantOf (a .f) (a .plant .now) .line .rate) (a .slots .now) (a .week) x j) all
+    ∙ (made-sum total (slotIn (a .slots .now) (a .week)) (plantOf (a .f) (a .plant .now) .line .rate) j
     ∙ ap (λ (m : ℕ). plantOf (a .f) (a .plant .now) .line .rate j * m) (sym (minutes-sum total (slotIn (a .slots .now) (a .week)) j)))))
 
 pub write-production-spec : {M : Type 1} → statement M
@@ -103,7 +109,8 @@ write-production-spec =
     (λ c κs. (start (c .before) .pre .1 .good, known (c .before)))
     (λ c. omega (arith, c .before .before .slot-product .ensures .1, start (c .before .before .before) .pre .2))
     (λ c κs. (start (c .before .before .before) .pre .0, c .before .before .slot-product .ensures .1))
-    (λ c. let most : c .before .before .slot-minutes .result ≤ 65536 = omega (arith, c .before .before .slot-minutes .ensures .1) in omega (arith, mul-le-mul (c .rate .ensures .2) most))
+    (λ c. let most : c .before .before .slot-minutes .result ≤ 65536 = omega (arith, c .before .before .slot-minutes .ensures .1) in
+    omega (arith, mul-le-mul (c .rate .ensures .2) most))
     (λ c κs. omega (arith, fits (c .before .before .before .before), room 4 (c .before .before .before .slot-product .ensures .1)))
     (λ c. search needs)
     (λ c. search needs)

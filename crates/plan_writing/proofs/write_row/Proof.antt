@@ -41,7 +41,9 @@ module _ (s : tie.Start) where
 
 write-minutes-requires : tie.Need-write-minutes-requires
 unfolding widthIn columnsIn
-write-minutes-requires c κs = let s = c .before .before .before .before .before in (week s (omega (arith, c .before .if1 .taken)), at-place s 6 (c .before .if1 .taken) .0)
+write-minutes-requires c κs =
+    let s = c .before .before .before .before .before in
+    (week s (omega (arith, c .before .if1 .taken)), at-place s 6 (c .before .if1 .taken) .0)
 
 returns : tie.Need-returns
 unfolding widthIn columnsIn rowIn runTables lineTables
@@ -63,7 +65,10 @@ returns-2 c =
 
 write-backlog-requires : tie.Need-write-backlog-requires
 unfolding widthIn rowsIn columnsIn
-write-backlog-requires c κs = let s = c .before .before .before .before .before .before .before in (s .pre .0, at-place s 10 (c .before .if3 .taken) .1, at-place s 10 (c .before .if3 .taken) .0)
+write-backlog-requires c κs =
+    let s = c .before .before .before .before .before .before .before in
+    let here = at-place s 10 (c .before .if3 .taken) in
+    (s .pre .0, here .1, here .0)
 
 returns-3 : tie.Need-returns-3
 unfolding widthIn columnsIn rowIn

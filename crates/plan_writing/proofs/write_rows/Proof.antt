@@ -41,7 +41,8 @@ size-most c =
 
 -- the output has room for all rows
 fits : (c : tie.After-columns-of Inv-loop μ-loop)
-    → c .before .before .width-of .result * c .columns-of .result * c .before .rows-of .result ≤ length (c .before .before .before .before .before .before .args .out .now)
+    → c .before .before .width-of .result * c .columns-of .result * c .before .rows-of .result
+    ≤ length (c .before .before .before .before .before .before .args .out .now)
 fits c =
     let s = c .before .before .before .before .before .before in
     let a = s .args in
@@ -63,7 +64,8 @@ next-fits c =
     omega (arith, more, fits d, c .before .loop .inv .1, c .before .loop .inv .2)
 
 -- row r is among the rows, and in the first places a week
-row-known : (c : tie.In-loop Inv-loop μ-loop) → c .before .loop .r < rowsIn (c .before .before .before .before .before .before .before .before .args .f) (c .before .before .before .before .before .before .before .before .args .place)
+row-known : (c : tie.In-loop Inv-loop μ-loop) → let a = c .before .before .before .before .before .before .before .before .args in
+    c .before .loop .r < rowsIn (a .f) (a .place)
 row-known c = omega (arith, c .loop-test .taken, c .before .before .before .rows-of .ensures)
 
 loop-holds : tie.Need-loop-holds Inv-loop μ-loop
@@ -87,7 +89,8 @@ write-row-requires c κs =
 first-after-requires : tie.Need-first-after-requires Inv-loop μ-loop
 first-after-requires c κs =
     let s = c .before .before .before .before .before .before .before .before .before .before .before .before in
-    (s .pre .0 .slots-good, λ l. omega (arith, row-known (c .before .before .before .before), week-rows (s .args .f) (s .args .place) l), c .before .before .before .before .before .loop .inv .4)
+    let known = row-known (c .before .before .before .before) in
+    (s .pre .0 .slots-good, λ l. omega (arith, known, week-rows (s .args .f) (s .args .place) l), c .before .before .before .before .before .loop .inv .4)
 
 loop-again : tie.Need-loop-again Inv-loop μ-loop
 loop-again c =
@@ -101,7 +104,8 @@ loop-again c =
     let bytes : ℕ → List ℕ = λ q. encode width columns (rowIn (a .f) x (a .place) q) in
     let stored =
     c .before .before .before .write-row .ensures
-    ∙ ap (store _ 0) (λ u. encode (sym (d .before .before .width-of .ensures) u) (sym (d .columns-of .ensures .0) u) (rowIn (a .f) x (a .place) (b .loop .r))) in
+    ∙ ap (store _ 0)
+    (λ u. encode (sym (d .before .before .width-of .ensures) u) (sym (d .columns-of .ensures .0) u) (rowIn (a .f) x (a .place) (b .loop .r))) in
     let whole =
     ap (putMid (b .loop .p) (length (b .loop .out) - b .loop .p) (b .loop .out)) stored
     ∙ part-store (b .loop .out) (b .loop .p) (bytes (b .loop .r)) (omega (arith, next-fits (c .before .before .before .before .before))) in

@@ -26,7 +26,8 @@ amounts : (c : tie.After-week-outcome) → (mag (c .before .before .before .befo
     × (c .before .inventory-update .result .charge ≤ 60000000000000000)
 amounts c =
     let carried = c .before .before .backlog-update .ensures in
-    (omega (arith, roomy (c .before .before .before .before .before) .profit-most), carried .revenue-most, carried .charge-most, c .before .inventory-update .ensures .charge-most)
+    let start = c .before .before .before .before .before in
+    (omega (arith, roomy start .profit-most), carried .revenue-most, carried .charge-most, c .before .inventory-update .ensures .charge-most)
 
 returns : tie.Need-returns
 returns c =
@@ -43,7 +44,8 @@ returns-2 c =
     let sold = d .before .inventory-update .ensures in
     ap continues
     (week-parts _ _ _ _ _ _ _ carried sold (rw (paid .pay2 .ensures .0, paid .before .pay .ensures .0, paid .before .before .gain .ensures .0)))
-    ∙ sym (week-continues _ _ _ _ _ _ _ (carried .due) (sold .in-stock) (sold .kept) _ (d .week-outcome .ensures) (paid .before .before .before .enum-told2 .given .1))
+    ∙ sym (week-continues _ _ _ _ _ _ _ (carried .due) (sold .in-stock) (sold .kept) _ (d .week-outcome .ensures)
+    (paid .before .before .before .enum-told2 .given .1))
 
 pub week-end-spec : {M : Type 1} → statement M
 week-end-spec =

@@ -18,7 +18,7 @@ pub const PLANT_CHANGES: [PlantChange; 4] =
 
 /// Changes after which a run stops, or runs otherwise. All leave the slots with
 /// products of the plant.
-pub const SLOTS_CHANGES: [SlotsChange; 14] = [
+pub const SLOTS_CHANGES: [SlotsChange; 15] = [
     repeat_product,
     repeat_product,
     shorten_run,
@@ -29,6 +29,7 @@ pub const SLOTS_CHANGES: [SlotsChange; 14] = [
     sell_unasked,
     sell_out,
     sell_out,
+    wrap_sales,
     change_sale,
     tighten_storage,
     tighten_storage,
@@ -36,7 +37,7 @@ pub const SLOTS_CHANGES: [SlotsChange; 14] = [
 ];
 
 /// Changes after which a plan breaks a rule, or is another plan.
-pub const PLAN_CHANGES: [PlanChange; 38] = [
+pub const PLAN_CHANGES: [PlanChange; 39] = [
     change_one_number,
     change_one_number,
     change_one_number,
@@ -75,6 +76,7 @@ pub const PLAN_CHANGES: [PlanChange; 38] = [
     change_owed_onward,
     change_stock_onward,
     wrap_balance,
+    wrap_sales_with_backlog,
 ];
 
 /// Changes to the plant under a plan or slots, all within the ranges.
@@ -284,6 +286,23 @@ fn sell_out(random: &mut Random, plant: &mut Plant, slots: &mut Slots) {
     slots.sales[place] = slots.sales[place].saturating_add(more.min(asked));
 }
 
+/// Raises the sales of one product in one week by 2^32 over the customers, or by
+/// less where the backlog from that week on is less.
+fn wrap_sales(random: &mut Random, plant: &mut Plant, slots: &mut Slots) {
+    let sizes = plant.sizes;
+    let plan = following::plan(plant, slots);
+    let week = random.below(sizes.weeks);
+    let product = random.below(sizes.products);
+    let mut left = 1u64 << 32;
+    for customer in 0..sizes.customers {
+        let place = |week| sizes.customer_product_week(customer, product, week);
+        let backlogs = (week..sizes.weeks).map(|week| u64::from(plan.backlog[place(week)]));
+        let more = backlogs.fold(left, u64::min);
+        slots.sales[place(week)] += more as u32;
+        left -= more;
+    }
+}
+
 fn change_sale(random: &mut Random, _plant: &mut Plant, slots: &mut Slots) {
     let place = random.below(slots.sales.len());
     let sale = slots.sales[place];
@@ -320,10 +339,16 @@ pub fn break_slots_form(random: &mut Random, plant: &Plant, slots: &mut Slots) {
     let products = plant.sizes.products;
     let mut rows = slots.rows();
     let week = random.below(rows.len());
-    match random.below(4) {
+    match random.below(5) {
         0 => any_slot(random, slots).product = random.pick(&[products as u8, 255]),
         1 => slots.counts[week] = random.pick(&[0, products as u8 + 1, 255]),
         2 => {
+            // Section 42 has the sum of the counts only modulo 2^8.
+            for week in [week, random.below(rows.len())] {
+                slots.counts[week] = slots.counts[week].wrapping_add(128);
+            }
+        }
+        3 => {
             rows[week].clear();
             *slots = Slots::from_rows(&rows, slots.sales.clone());
         }
@@ -720,6 +745,16 @@ fn wrap_balance(random: &mut Random, plant: &mut Plant, _: &Slots, plan: &mut Pl
         let index = sizes.week_product(week, product);
         plan.inventory[index] = plan.inventory[index].wrapping_sub(by);
     }
+    following::fill_profit(plant, plan);
+}
+
+/// Raises sales in a plan. Backlog and profit follow and the inventory does not,
+/// so that its balance may agree only modulo 2^32.
+fn wrap_sales_with_backlog(random: &mut Random, plant: &mut Plant, slots: &Slots, plan: &mut Plan) {
+    let mut slots = slots.clone();
+    wrap_sales(random, plant, &mut slots);
+    plan.sales = slots.sales;
+    following::fill_owed(plant, plan);
     following::fill_profit(plant, plan);
 }
 

@@ -1,14 +1,16 @@
-//! The least and the greatest plant, files and outputs of more than 2^32 bytes,
-//! and files of another kind.
+//! The least and the greatest plant, the most slots, sales of more than 2^32
+//! grams in a week, files and outputs of more than 2^32 bytes, and files of
+//! another kind.
 
-use doxkarin_tests::model::{Plant, Sizes, Slot, Slots};
-use doxkarin_tests::{library, machine, reference, samples, small};
+use doxkarin_tests::model::{Plant, Sizes, Slot, Slots, Storage};
+use doxkarin_tests::scenario::greatest_sizes;
+use doxkarin_tests::{following, library, reference, samples, small};
 
 /// Asserts that slots run to this profit, and that plan and slots are each
 /// other's.
 fn assert_runs(plant: &Plant, slots: &Slots, profit: i64) {
     let (plant_file, slot_file) = (plant.encode(), slots.encode());
-    let plan_file = machine::run(plant, slots).expect("the run never stops").encode();
+    let plan_file = reference::plan_file(&plant_file, &slot_file).expect("the run never stops");
     let mut out = vec![0xa5; plan_file.len()];
     assert_eq!(library::plan(&plant_file, &slot_file, &mut out), Ok(plan_file.len()));
     assert!(out == plan_file);
@@ -17,6 +19,7 @@ fn assert_runs(plant: &Plant, slots: &Slots, profit: i64) {
     let mut out = vec![0xa5; slot_file.len()];
     assert_eq!(library::slots(&plant_file, &plan_file, &mut out), Ok(slot_file.len()));
     assert!(out == slot_file);
+    assert!(reference::slot_file(&plant_file, &plan_file) == Ok(slot_file));
 }
 
 #[test]
@@ -56,6 +59,54 @@ fn the_greatest_plant_runs() {
     let this: i64 = (1..=26).map(|week| 100_000_000 + week * left).sum();
     let backlog = 8 * unit * (others + this);
     assert_runs(&plant, &slots, sold - inventory - backlog);
+}
+
+/// Every product runs in every week: more slots than 8 bits can count.
+#[test]
+fn the_most_slots_run() {
+    let sizes = greatest_sizes();
+    let mut plant = samples::least_plant(sizes);
+    plant.week_minutes = 16;
+    plant.storage.fill(Storage { least: 0, greatest: 26 });
+    let row = (0..16).map(|product| Slot { product, minutes: 1 }).collect();
+    let slots = Slots::from_rows(&vec![row; sizes.weeks], vec![0; plant.demand.len()]);
+    assert_runs(&plant, &slots, 0);
+}
+
+/// Sales of one week, over the customers, whose sum does not fit in 32 bits.
+#[test]
+fn sales_beyond_32_bits_count() {
+    const SOLD: u32 = 540_000_000;
+    let sizes = Sizes { products: 1, customers: 8, weeks: 6 };
+    let mut plant = samples::least_plant(sizes);
+    plant.rates[0] = 100_000;
+    plant.week_minutes = 10_080;
+    plant.storage[0].greatest = 4_000_000_000;
+    plant.opening_inventory[0] = 3_990_000_000;
+    plant.opening_backlog.fill(100_000_000);
+    plant.demand.fill(100_000_000);
+    let mut rows = vec![vec![Slot { product: 0, minutes: 1 }]; sizes.weeks];
+    rows[5][0].minutes = 10_080;
+    let mut sales = vec![0; plant.demand.len()];
+    for customer in 0..sizes.customers {
+        sales[sizes.customer_product_week(customer, 0, 5)] = SOLD;
+    }
+    let slots = Slots::from_rows(&rows, sales);
+    assert_runs(&plant, &slots, 0);
+
+    // With less inventory, what is left of the sum in 32 bits could be sold.
+    plant.opening_inventory[0] = 1_000_000;
+    let mut plan = following::plan(&plant, &slots);
+    plan.inventory[5] = plan.inventory[4] + plan.grams[5] - SOLD.wrapping_mul(8);
+    let (plant, plan, slots) = (plant.encode(), plan.encode(), slots.encode());
+    let mut out = [0xa5; 1000];
+    assert_eq!(library::check(&plant, &plan), Err(39));
+    assert_eq!(reference::check(&plant, &plan), Err(39));
+    assert_eq!(library::slots(&plant, &plan, &mut out), Err(39));
+    assert_eq!(reference::slots(&plant, &plan, &mut out), Err(39));
+    assert_eq!(library::plan(&plant, &slots, &mut out), Err(39));
+    assert_eq!(reference::plan(&plant, &slots, &mut out), Err(39));
+    assert_eq!(out, [0xa5; 1000]);
 }
 
 /// What is left of these lengths in 32 bits would be right.

@@ -1,17 +1,15 @@
 -- Each body of a plan is its rows in file order, end to end. Assumes nothing.
 use Prim.Native.Nat.{ℕ, zero, suc, _+_, _*_, _/_, _%_, _-_, _≤_, _<_}
 use mathlib.Core.Path.{_≡_, refl, sym, ap, _∙_}
-use mathlib.Core.Logic.{_≢_}
 use mathlib.Core.List.{List, [], _∷_, _++_, map, append-nil}
 use native.Mathlib.Omega.{arith}
-use lib.ListN.{length, getD, take, replicate}
-use lib.Seq.{getD-take, length-take-le}
+use lib.ListN.{length, getD, replicate}
 use borrow.Rule.Slice.PartMut.{midOf, putMid}
 use Rattle.mathematics.specs.Below.{joinBelow, listBelow}
 use Rattle.mathematics.proofs.Join.{join-ext, join-table, even-length}
 use Rattle.mathematics.proofs.Lists.{list-at}
 use Rattle.numbers.specs.Number.{digits, encode, store}
-use Rattle.numbers.proofs.Number.{encode-length, encode-ext}
+use Rattle.numbers.proofs.Number.{encode-length}
 use Rattle.numbers.proofs.Store.{part-store}
 use Rattle.contents.specs.File.{start, contentsBytes}
 use Rattle.contents.proofs.FileStored.{firstBodies, body-stored, all-stored}
@@ -21,7 +19,7 @@ use Rattle.plan_file.specs.Plan.{Plan}
 use Rattle.plan_file.specs.Form.{planLengths}
 use Rattle.plan_file.specs.File.{planBodies, planFile}
 use Rattle.plan_file.proofs.FileIsPlan.{bodies-lengths}
-use Rattle.plan_writing.specs.Bodies.{widthIn, rowsIn, columnCounts, columnsIn, rowIn, Shows}
+use Rattle.plan_writing.specs.Bodies.{widthIn, rowsIn, columnCounts, columnsIn, rowIn}
 
 cube-rows : (k l m n : ℕ) (t : ℕ → ℕ → ℕ → ℕ) → cube k l m n t ≡ joinBelow (l * m) (λ r. encode k n (t (r / m) (r % m)))
 unfolding cube grid
@@ -125,12 +123,6 @@ pub body-length : (f : Shape) (x : Plan) (place : ℕ) → place < 12
 body-length f x place l =
     sym (rows-length (widthIn place) (columnsIn f place) (rowsIn f place) (rowIn f x place))
     ∙ (ap length (body-is f x place l) ∙ (length-at (planBodies f x) place ∙ ap (λ (n : List ℕ). getD n place 0) (bodies-lengths f x)))
-
--- the bytes of a row that begins a list
-pub row-bytes : (k n : ℕ) (row : List ℕ) (g : ℕ → ℕ) → n ≤ length row → Shows n g row
-    → encode k (length (take n row)) (λ i. getD (take n row) i 0) ≡ encode k n g
-row-bytes k n row g l h =
-    rw (length-take-le n row l) (encode-ext k n (λ i. getD (take n row) i 0) g (λ i m. getD-take n row i 0 m ∙ h i m))
 
 -- ---- the bodies one after the other
 pub contents-first : (f : Shape) (x : Plan) → contentsBytes 2 21 (planLengths f) ≡ firstBodies 2 21 (planBodies f x) 0

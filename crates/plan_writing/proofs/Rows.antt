@@ -1,20 +1,14 @@
 -- Rows that are filled number by number. Assumes nothing.
-use Prim.Native.Nat.{ℕ, zero, suc, _+_, _*_, _<_}
+use Prim.Native.Nat.{ℕ, _+_, _*_, _<_}
 use mathlib.Core.Path.{_≡_, refl, sym, ap, _∙_}
-use mathlib.Core.Logic.{_≢_}
 use mathlib.Core.List.{List}
 use native.Mathlib.Omega.{arith}
 use native.Mathlib.Decide.{ℕ-discrete}
-use lib.ListN.{length, getD, set, replicate}
+use lib.ListN.{length, getD, set}
 use lib.Seq.{getD-set-same, getD-set-other}
 use Rattle.mathematics.specs.Below.{is}
 use Rattle.mathematics.proofs.Below.{is-same, is-other}
 use Rattle.plan_writing.specs.Bodies.{Shows}
-
-pub zeros : (n j : ℕ) → _≡_ {A = ℕ} (getD (replicate n 0) j 0) 0
-zeros zero j = refl
-zeros (suc n) zero = refl
-zeros (suc n) (suc j) = zeros n j
 
 -- one number more
 pub filled : (row : List ℕ) (g : ℕ → ℕ) (k v : ℕ) → k < length row → v ≡ g k → Shows k g row → Shows (k + 1) g (set row k v)
@@ -26,13 +20,13 @@ filled row g k v l e h j m = go (ℕ-discrete j k)
 
 -- v more in place p of a row of the numbers g
 pub slot-added : (row : List ℕ) (g : ℕ → ℕ) (p v : ℕ) → p < length row → ((j : ℕ) → getD row j 0 ≡ g j)
-    → (j : ℕ) → getD (set row p (getD row p 0 + v)) j 0 ≡ g j + is p j * v
+    → (j : ℕ) → getD (set row p (getD row p 0 + v)) j 0 ≡ g j + v * is p j
 slot-added row g p v l h j = go (ℕ-discrete j p)
   where
-    go : Dec (j ≡ p) → getD (set row p (getD row p 0 + v)) j 0 ≡ g j + is p j * v
+    go : Dec (j ≡ p) → getD (set row p (getD row p 0 + v)) j 0 ≡ g j + v * is p j
     go (yes e) =
-        let one : is p p * v ≡ v = ap (λ (x : ℕ). x * v) (is-same p p refl) ∙ omega arith in
+        let one : v * is p p ≡ v = ap (λ (x : ℕ). v * x) (is-same p p refl) ∙ omega arith in
         rw e (omega (arith, getD-set-same row p (getD row p 0 + v) 0 l, h p, one))
     go (no d) =
-        let none : is p j * v ≡ 0 = ap (λ (x : ℕ). x * v) (is-other p j (λ e. d (sym e))) ∙ omega arith in
+        let none : v * is p j ≡ 0 = ap (λ (x : ℕ). v * x) (is-other p j (λ e. d (sym e))) ∙ omega arith in
         omega (arith, getD-set-other row p j (getD row p 0 + v) 0 d, h j, none)

@@ -23,7 +23,6 @@ use Rattle.model.proofs.States.{opening-inventory, opening-backlog}
 use Rattle.model.proofs.RunStates.{WeekFormed, mounted-last, ran-backlog, ran-inventory, after-backlog, after-inventory}
 use Rattle.model.proofs.Stops.{WeekClear, run-goes}
 use Rattle.plan_writing.specs.Run.{Ran, passage}
-use Rattle.plan_writing.specs.Bodies.{carriedInto}
 
 pub times-same : {a b x y : ℕ} → a ≡ b → x ≡ y → a * x ≡ b * y
 times-same e d = λ u. e u * d u
@@ -32,6 +31,11 @@ times-same e d = λ u. e u * d u
 pub sides : (f : Shape) (plant : List ℕ) → plantForm plant ≡ Good f → (0 < f .products) × (0 < f .weeks)
 unfolding plantOf
 sides f plant good = let r = plant-ranges plant f good in (omega (arith, r .products-least), omega (arith, r .weeks-least))
+
+-- and not many products
+pub few-products : (f : Shape) (plant : List ℕ) → plantForm plant ≡ Good f → f .products ≤ 16
+unfolding plantOf
+few-products f plant good = plant-ranges plant f good .products-most
 
 -- product k of an order
 order-at : (xs : List Slot) (k : ℕ) (d : Slot) → k < length xs → getD (orderOfSlots xs) k 0 ≡ getD xs k d .product
@@ -93,7 +97,7 @@ module _ (f : Shape) (plant slots : List ℕ) (h : Ran f plant slots) where
   profit-is = sym (ap (λ (s : State). s .profit .0) (goes-on .1))
 
   module _ (i : ℕ) (k : i < f .products) where
-    inventory-first : P .openingInventory i ≡ inventoryOf (after P S 0) i
+    pub inventory-first : P .openingInventory i ≡ inventoryOf (after P S 0) i
     unfolding plantOf
     inventory-first = sym (opening-inventory P ranges i k)
 
@@ -111,13 +115,6 @@ module _ (f : Shape) (plant slots : List ℕ) (h : Ran f plant slots) where
     unfolding plantOf
     inventory-covers w l =
         omega (arith, clear w l .ends .stocked i k, ran-inventory P S ranges w (formed f plant slots (h .slots-good) w l) i)
-
-    -- the inventory before a week, by what is carried into it
-    pub inventory-held : (w carried : ℕ) → ((v : ℕ) → w ≡ suc v → carried ≡ runTables P S .inventory v i)
-        → carriedInto w (P .openingInventory i) carried ≡ inventoryOf (after P S w) i
-    unfolding runTables
-    inventory-held zero carried h = inventory-first
-    inventory-held (suc w) carried h = h w refl
 
     pub inventory-limit : (w : ℕ) → w < f .weeks → inventoryOf (after P S w) i ≤ 4000000000
     unfolding plantOf

@@ -20,7 +20,8 @@ use Rattle.plant_file.specs.Plant.{Plant, plantOf}
 use Rattle.plan_writing.specs.Run.{passage}
 use Rattle.plan_writing.specs.Bodies.{columnsIn, rowIn}
 use Rattle.plan_writing.specs.Marks.{slotIn, previousIn, later, markOf, strideIn, cellIn, marked}
-use Rattle.plan_writing.proofs.WeekSums.{ran-sum, places-sum, first-is, last-is, neighbours-sum}
+use Rattle.plan_writing.proofs.Scatter.{stored}
+use Rattle.plan_writing.proofs.WeekSums.{ran-sum, minutes-sum, made-sum, places-sum, first-is, last-is, neighbours-sum}
 use Rattle.plan_writing.proofs.RunWeeks.{passage-is}
 
 -- ---- which slots there are
@@ -38,6 +39,15 @@ module _ (f : Shape) (s : List ℕ) (w : ℕ) (good : slotForm f s ≡ Good f) (
 pub before-next : (s : List ℕ) (w : ℕ) → slotsBefore s (suc w) ≡ slotsBefore s w + slotCount s w
 unfolding slotsBefore
 before-next s w = refl
+
+-- what the slots below k of week w make of each product
+abbrev pub made : (rate : ℕ → ℕ) (s : List ℕ) (w k j : ℕ) → ℕ
+made rate s w = stored (λ u. rate (slotIn s w u .product) * slotIn s w u .minutes) (λ u. slotIn s w u .product)
+
+pub made-all : (f : Shape) (rate : ℕ → ℕ) (s : List ℕ) (w j : ℕ) → made rate s w (slotCount s w) j ≡ rate j * minutesOf (slotsOf f s .line .week w) j
+unfolding slotsOf
+made-all f rate s w j =
+    made-sum (slotCount s w) (slotIn s w) rate j ∙ ap (λ (m : ℕ). rate j * m) (sym (minutes-sum (slotCount s w) (slotIn s w) j))
 
 -- ---- sums with a single term
 only-first : (n : ℕ) (g : ℕ → ℕ) → 0 < n → ((k : ℕ) → g (suc k) ≡ 0) → sumBelow n g ≡ g 0

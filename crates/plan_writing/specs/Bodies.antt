@@ -1,11 +1,15 @@
 -- The rows of a plan's bodies, by place and in file order. Assumes nothing.
-use Prim.Native.Nat.{ℕ, zero, suc, _*_, _/_, _%_, _≤_, _<_}
+use Prim.Native.Nat.{ℕ, _*_, _/_, _%_, _<_}
 use mathlib.Core.Path.{_≡_}
 use mathlib.Core.List.{List, [], _∷_}
 use lib.ListN.{length, getD}
+use Rattle.mathematics.specs.Below.{sumBelow}
 use Rattle.numbers.specs.Signed.{unsignedOf}
 use Rattle.sections.specs.declared.Shape.{Shape}
+use Rattle.plant_file.specs.Plant.{plantOf}
 use Rattle.plan_file.specs.Plan.{Plan}
+use Rattle.slot_file.specs.Slots.{slotsOf}
+use Rattle.model.specs.RunTables.{minutesOf}
 
 -- how many bytes each number of the body in a place has
 unfoldable pub widthIn : ℕ → ℕ
@@ -52,18 +56,9 @@ Shows n g row = (j : ℕ) → j < n → getD row j 0 ≡ g j
 abbrev pub Row : (n : ℕ) → (ℕ → ℕ) → List ℕ → Type 0
 Row n g row = Shows n g row × (length row ≡ 26)
 
--- a list without a large number
-abbrev pub Small : List ℕ → Type 0
-Small row = (j : ℕ) → getD row j 0 ≤ 16777216
+-- what the slots of a week make of a product, and what is sold of it
+abbrev pub madeIn : Shape → (plant slots : List ℕ) (week i : ℕ) → ℕ
+madeIn f plant slots week i = plantOf f plant .line .rate i * minutesOf (slotsOf f slots .line .week week) i
 
--- ---- a row that needs the row before it
--- the opening number before week 0, else what is carried
-abbrev pub carriedInto : (week opening carried : ℕ) → ℕ
-carriedInto zero opening carried = opening
-carriedInto (suc w) opening carried = carried
-
--- V of a week comes from P of the week and from V of the week before
-pub record Carried (f : Shape) (x : Plan) (week : ℕ) (made before : List ℕ) : Type 0 where
-  pub of-week : Shows (f .products) (x .production week) made
-  pub most : (i : ℕ) → i < f .products → getD made i 0 ≤ 2000000000000
-  pub carried : (w : ℕ) → week ≡ suc w → Shows (f .products) (x .inventory w) before
+abbrev pub soldIn : Shape → (slots : List ℕ) (week i : ℕ) → ℕ
+soldIn f slots week i = sumBelow (f .customers) (λ c. slotsOf f slots .sales c i week)

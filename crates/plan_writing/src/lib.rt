@@ -3,7 +3,7 @@
 ghost use mathlib.Core.Path.{_≡_};
 ghost use mathlib.Core.List.{[]};
 ghost use mathlib.Core.Logic.{_≢_};
-ghost use Prim.Native.Nat.{_+_, _*_, _-_, _/_, _%_, _≤_, _<_};
+ghost use Prim.Native.Nat.{ℕ, _+_, _*_, _-_, _/_, _%_, _≤_, _<_};
 ghost use lib.ListN.{length, getD, replicate};
 ghost use Rattle.mathematics.specs.Below.{is};
 ghost use Rattle.numbers.specs.Number.{encode, store};
@@ -21,7 +21,7 @@ ghost use Rattle.model.specs.RunTables.{minutesOf, runTables};
 ghost use Rattle.calls.specs.declared.Written.the-variants.{Length};
 ghost use Rattle.calls.specs.Answer.{bytes, planAnswer, writtenIn, outputAfter};
 ghost use Rattle.plan_writing.specs.Run.{Ran, WeekOf};
-ghost use Rattle.plan_writing.specs.Bodies.{widthIn, rowsIn, columnsIn, rowIn, Row, Small, carriedInto, Carried};
+ghost use Rattle.plan_writing.specs.Bodies.{widthIn, rowsIn, columnsIn, rowIn, Shows, Row, madeIn, soldIn};
 ghost use Rattle.plan_writing.specs.Marks.{later, shownFrom, shownTo, strideIn, marked};
 use calls::Written;
 use calls::refuse;
@@ -32,7 +32,6 @@ use machine::sold_of;
 use numbers::count;
 use numbers::unsigned;
 use numbers::write;
-use numbers::write_all;
 use plan_file::plan_length;
 use plan_file::section_start;
 use plant_file::opening_inventory;
@@ -279,72 +278,54 @@ fn write_sales(out: &mut [u8], slots: &[u8], f: Shape)
     }
 }
 
-// A week's row of T.
-fn minutes_row(slots: &[u8], f: Shape, week: usize, first: usize) -> [u64; 26]
-    requires { ⌜ WeekOf f (now slots) week first × (f .products ≤ 16) ⌝ }
-    ensures { λ r. ⌜ Row (f .products) (minutesOf (slotsOf f (now (slots .entry)) .line .week week)) r × Small r ⌝ }
+// The opening inventory, product by product.
+fn opening_row(plant: &[u8], f: Shape) -> [u64; 26]
+    requires { ⌜ plantForm (now plant) ≡ Good f ⌝ }
+    ensures { λ r. ⌜ Row (f .products) (plantOf f (now (plant .entry)) .openingInventory) r ⌝ }
+{
+    let products = count(f.products);
+    let mut row = [0; 26];
+    let mut i = 0;
+    while i < products {
+        row[i] = opening_inventory(plant, f, i);
+        i += 1;
+    }
+    row
+}
+
+// Adds what each slot of a week makes to the number of its product; slot `first` is the week's first.
+fn add_production(row: &mut [u64], plant: &[u8], slots: &[u8], f: Shape, week: usize, first: usize)
+    requires { ⌜ (plantForm (now plant) ≡ Good f) × WeekOf f (now slots) week first × (f .products ≤ length (now row))
+        × ((i : ℕ) → i < f .products → getD (now row) i 0 ≤ 4000000000) ⌝ }
+    ensures { λ _. ⌜ Shows (f .products) (λ i. getD (now (row .entry)) i 0 + madeIn f (now (plant .entry)) (now (slots .entry)) week i) (now (row .exit)) ⌝ }
 {
     let total = slot_count(slots, f, week);
-    let mut row = [0; 26];
     let mut k = 0;
     while k < total {
         let j = first + k;
         let product = slot_product(slots, f, j);
         let minutes = slot_minutes(slots, f, j);
-        row[product] = row[product] + minutes;
+        row[product] = row[product] + rate(plant, f, product) * minutes;
         k += 1;
     }
-    row
 }
 
-// A week's row of P, of its row of T.
-fn production_row(plant: &[u8], f: Shape, minutes: [u64; 26]) -> [u64; 26]
-    requires { ⌜ (plantForm (now plant) ≡ Good f) × (f .products ≤ 16) × Small minutes ⌝ }
-    ensures { λ r. ⌜ Row (f .products) (λ i. plantOf f (now (plant .entry)) .line .rate i * getD minutes i 0) r ⌝ }
+// Takes a week's sales from the number of each product, and stores what is left, the week's row of V.
+fn write_inventory_row(out: &mut [u8], row: &mut [u64], slots: &[u8], f: Shape, week: usize)
+    requires { ⌜ (slotForm f (now slots) ≡ Good f) × (week < f .weeks) × (f .products ≤ length (now row)) × (4 * f .products ≤ length (now out))
+        × ((i : ℕ) → i < f .products → soldIn f (now slots) week i ≤ getD (now row) i 0) ⌝ }
+    ensures stored { λ _. ⌜ now (out .exit) ≡ store (now (out .entry)) 0
+        (encode 4 (f .products) (λ i. getD (now (row .entry)) i 0 - soldIn f (now (slots .entry)) week i)) ⌝ }
+    ensures left { λ _. ⌜ Shows (f .products) (λ i. getD (now (row .entry)) i 0 - soldIn f (now (slots .entry)) week i) (now (row .exit)) ⌝ }
 {
     let products = count(f.products);
-    let mut row = [0; 26];
     let mut i = 0;
     while i < products {
-        row[i] = rate(plant, f, i) * minutes[i];
+        let left = row[i] - sold_of(slots, f, i, week);
+        row[i] = left;
+        write(out, 4 * i, 4, left);
         i += 1;
     }
-    row
-}
-
-// The inventory of a product before a week: the opening one before the first, else the one that is carried.
-fn inventory_before(plant: &[u8], f: Shape, week: usize, product: usize, carried: u64) -> u64
-    requires { ⌜ (plantForm (now plant) ≡ Good f) × (product < f .products) ⌝ }
-    ensures { λ r. ⌜ r ≡ carriedInto week (plantOf f (now (plant .entry)) .openingInventory product) carried ⌝ }
-{
-    if week == 0 {
-        return opening_inventory(plant, f, product);
-    }
-    carried
-}
-
-// A week's row of V, of its row of P and the row of V of the week before.
-fn inventory_row(
-    plant: &[u8],
-    slots: &[u8],
-    f: Shape,
-    week: usize,
-    made: [u64; 26],
-    before: [u64; 26],
-) -> [u64; 26]
-    requires { ⌜ Ran f (now plant) (now slots) × (week < f .weeks) × Carried f (runTables (plantOf f (now plant)) (slotsOf f (now slots))) week made before
-        × (f .products ≤ 16) ⌝ }
-    ensures { λ r. ⌜ Row (f .products) (runTables (plantOf f (now (plant .entry))) (slotsOf f (now (slots .entry))) .inventory week) r ⌝ }
-{
-    let products = count(f.products);
-    let mut row = [0; 26];
-    let mut i = 0;
-    while i < products {
-        let held = inventory_before(plant, f, week, i, before[i]);
-        row[i] = held + made[i] - sold_of(slots, f, i, week);
-        i += 1;
-    }
-    row
 }
 
 // Stores V, week by week.
@@ -353,18 +334,15 @@ fn write_inventory(out: &mut [u8], plant: &[u8], slots: &[u8], f: Shape)
     ensures { λ _. ⌜ now (out .exit) ≡ store (now (out .entry)) 0
         (getD (planBodies f (runTables (plantOf f (now (plant .entry))) (slotsOf f (now (slots .entry))))) 9 []) ⌝ }
 {
-    let products = count(f.products);
     let weeks = count(f.weeks);
-    let size = 4 * products;
-    let mut row = [0; 26];
+    let size = 4 * count(f.products);
+    let mut row = opening_row(plant, f);
     let mut first = 0;
     let mut p = 0;
     let mut week = 0;
     while week < weeks {
-        let minutes = minutes_row(slots, f, week, first);
-        let made = production_row(plant, f, minutes);
-        row = inventory_row(plant, slots, f, week, made, row);
-        write_all(&mut out[p..], 4, &row[..products]);
+        add_production(&mut row, plant, slots, f, week, first);
+        write_inventory_row(&mut out[p..], &mut row, slots, f, week);
         first += slot_count(slots, f, week);
         p += size;
         week += 1;

@@ -2,25 +2,20 @@
 use borrow.Author.Needs.{needs}
 use native.Mathlib.Omega.{arith}
 use native.Mathlib.Nat.{mul-le-mul}
-use mathlib.Core.Path.{_≡_, refl, sym, ap, _∙_}
+use mathlib.Core.Path.{_≡_, refl, ap, _∙_}
 use mathlib.Core.List.{List}
 use Prim.Native.Nat.{ℕ, _+_, _*_, _≤_, _<_, _-_}
 use lib.ListN.{length, replicate}
 use Rattle.numbers.specs.Number.{encode, store}
 use Rattle.numbers.proofs.Number.{encode-ext, room}
 use Rattle.plant_file.specs.Plant.{plantOf}
-use Rattle.slot_file.specs.Slots.{slotCount, slotAt, slotsBefore, slotsOf}
+use Rattle.slot_file.specs.Slots.{slotCount, slotAt, slotsBefore}
 use Rattle.slot_file.proofs.SlotReads.{slot-inside}
 use Rattle.plan_writing.specs.Marks.{slotIn}
-use Rattle.plan_writing.proofs.Scatter.{zero-table, stored, slot-stored}
-use Rattle.plan_writing.proofs.WeekSums.{minutes-sum, made-sum}
-use Rattle.plan_writing.proofs.WeekTables.{slot-known}
+use Rattle.plan_writing.proofs.Scatter.{zero-table, slot-stored}
+use Rattle.plan_writing.proofs.WeekTables.{slot-known, made, made-all}
 use Rattle.plan_writing.proofs.write_production.Statement.{statement}
 use Rattle.plan_writing.proofs.write_production.Tie as tie
-
--- number j after the slots below k
-abbrev made : (rate : ℕ → ℕ) (slots : List ℕ) (week k j : ℕ) → ℕ
-made rate slots week = stored (λ u. rate (slotIn slots week u .product) * slotIn slots week u .minutes) (λ u. slotIn slots week u .product)
 
 -- whatever the zeros were stored in
 abbrev Inv-loop : tie.InvT-loop
@@ -75,14 +70,12 @@ loop-again q =
     )
 
 returns : tie.Need-returns Inv-loop μ-loop
-unfolding slotsOf
 returns g =
     let s = g .before .before .before .before .before .before .before .before .before .before .before in
     let a = s .args in
     let b = g .before .loop in
     let n = a .f .products in
-    let total = slotCount (a .slots .now) (a .week) in
-    let all : b .k ≡ total = omega (arith, g .loop-test .left, g .before .before .slot-count .ensures .0) in
+    let all : b .k ≡ slotCount (a .slots .now) (a .week) = omega (arith, g .loop-test .left, g .before .before .slot-count .ensures .0) in
     let begun = g .before .before .before .before .before .clear .ensures
     ∙ ap (store (a .out .now) 0)
     (ap (λ (m : ℕ). replicate {A = ℕ} (4 * m) 0) (g .before .before .before .before .before .before .count .ensures .0) ∙ zero-table 4 n) in
@@ -90,8 +83,7 @@ returns g =
     ∙ ap (store (a .out .now) 0)
     (encode-ext 4 n _ _
     (λ j l. ap (λ (x : ℕ). made (plantOf (a .f) (a .plant .now) .line .rate) (a .slots .now) (a .week) x j) all
-    ∙ (made-sum total (slotIn (a .slots .now) (a .week)) (plantOf (a .f) (a .plant .now) .line .rate) j
-    ∙ ap (λ (m : ℕ). plantOf (a .f) (a .plant .now) .line .rate j * m) (sym (minutes-sum total (slotIn (a .slots .now) (a .week)) j)))))
+    ∙ made-all (a .f) (plantOf (a .f) (a .plant .now) .line .rate) (a .slots .now) (a .week) j))
 
 pub write-production-spec : {M : Type 1} → statement M
 write-production-spec =

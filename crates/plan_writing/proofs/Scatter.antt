@@ -1,14 +1,14 @@
 -- Numbers stored one by one into a table that starts as 0. Assumes nothing.
-use Prim.Native.Nat.{ℕ, zero, suc, _+_, _*_, _-_, _≤_, _<_}
+use Prim.Native.Nat.{ℕ, zero, suc, _+_, _*_, _-_, _<_}
 use mathlib.Core.Path.{_≡_, refl, sym, ap, _∙_}
 use mathlib.Core.Logic.{_≢_}
-use mathlib.Core.List.{List, [], _∷_, _++_, append-assoc}
+use mathlib.Core.List.{List, _∷_, _++_, append-assoc}
 use native.Mathlib.Omega.{arith}
 use native.Mathlib.Nat.{add-zero, mul-zero, mul-suc}
 use native.Mathlib.Numerals.{add-one}
 use lib.ListN.{length, take, drop, replicate, replicate-append-replicate}
 use lib.Seq.{take-at, drop-at, drop-append-add}
-use Rattle.mathematics.specs.Below.{sumBelow, joinBelow, is}
+use Rattle.mathematics.specs.Below.{sumBelow, is}
 use Rattle.mathematics.proofs.Below.{sum-zero, is-same, is-other}
 use Rattle.mathematics.proofs.Join.{join-add, join-first}
 use Rattle.numbers.specs.Number.{digits, encode, store}

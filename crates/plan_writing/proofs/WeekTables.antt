@@ -6,19 +6,18 @@ use mathlib.Core.List.{List}
 use native.Mathlib.Omega.{arith}
 use native.Mathlib.Nat.{mul-comm, div-add-mod}
 use native.Mathlib.Decide.{ℕ-discrete}
-use lib.ListN.{getD}
 use Rattle.mathematics.specs.Below.{sumBelow, is}
 use Rattle.mathematics.proofs.Below.{sum-ext, sum-first, sum-only, sum-zero, is-same, is-other}
 use Rattle.mathematics.proofs.Join.{row-of, column-of}
 use Rattle.sections.specs.declared.Shape.{Shape}
 use Rattle.sections.specs.declared.Form.the-variants.{Good}
-use Rattle.slot_file.specs.Slots.{Slot, LineSlots, slotCount, slotAt, slotsBefore, slotsOf}
+use Rattle.slot_file.specs.Slots.{slotCount, slotAt, slotsBefore, slotsOf}
 use Rattle.slot_file.specs.Form.{slotForm}
 use Rattle.slot_file.proofs.SlotReads.{slot-good, slot-below}
 use Rattle.model.specs.RunTables.{orderOfSlots, whoRan, whoFirst, whoLast, neighbours, placesFrom, minutesOf, lineTables, runTables}
-use Rattle.plant_file.specs.Plant.{Plant, plantOf}
+use Rattle.plant_file.specs.Plant.{plantOf}
 use Rattle.plan_writing.specs.Run.{passage}
-use Rattle.plan_writing.specs.Bodies.{columnsIn, rowIn}
+use Rattle.plan_writing.specs.Bodies.{rowIn}
 use Rattle.plan_writing.specs.Marks.{slotIn, previousIn, later, markOf, strideIn, cellIn, marked}
 use Rattle.plan_writing.proofs.Scatter.{stored}
 use Rattle.plan_writing.proofs.WeekSums.{ran-sum, minutes-sum, made-sum, places-sum, first-is, last-is, neighbours-sum}

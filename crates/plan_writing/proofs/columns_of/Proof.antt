@@ -1,6 +1,6 @@
 -- `plan_writing::columns_of` meets its contract. Assumes nothing.
 use borrow.Author.Needs.{needs}
-use mathlib.Core.Path.{_≡_, ap, _∙_}
+use mathlib.Core.Path.{_≡_}
 use native.Mathlib.Omega.{arith}
 use lib.ListN.{getD}
 use Rattle.plan_writing.specs.Bodies.{columnCounts, columnsIn}

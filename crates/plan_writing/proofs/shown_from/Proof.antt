@@ -1,6 +1,6 @@
 -- `plan_writing::shown_from` meets its contract. Assumes nothing.
 use borrow.Author.Needs.{needs}
-use mathlib.Core.Path.{_≡_, refl, sym, ap, _∙_}
+use mathlib.Core.Path.{refl, sym}
 use Rattle.plan_writing.specs.Marks.{shownFrom}
 use Rattle.plan_writing.proofs.MarkCells.{from-other}
 use Rattle.plan_writing.proofs.shown_from.Statement.{statement}

@@ -1,6 +1,6 @@
 -- `plan_writing::shown_to` meets its contract. Assumes nothing.
 use borrow.Author.Needs.{needs}
-use mathlib.Core.Path.{_≡_, refl, sym, ap, _∙_}
+use mathlib.Core.Path.{refl, sym}
 use Rattle.plan_writing.specs.Marks.{shownTo}
 use Rattle.plan_writing.proofs.MarkCells.{to-other}
 use Rattle.plan_writing.proofs.shown_to.Statement.{statement}

@@ -1,7 +1,7 @@
 -- `plan_writing::stride_of` meets its contract. Assumes nothing.
 use borrow.Author.Needs.{needs}
 use native.Mathlib.Omega.{arith}
-use mathlib.Core.Path.{_≡_, refl, sym, ap, _∙_}
+use mathlib.Core.Path.{sym}
 use Rattle.plan_writing.specs.Marks.{strideIn}
 use Rattle.plan_writing.proofs.MarkCells.{stride-other}
 use Rattle.plan_writing.proofs.stride_of.Statement.{statement}

@@ -1,8 +1,6 @@
 -- `plan_writing::width_of` meets its contract. Assumes nothing.
 use borrow.Author.Needs.{needs}
 use mathlib.Core.Path.{refl}
-use Prim.Native.Nat.{ℕ, zero, suc, _≤_, _<_}
-use native.Mathlib.Omega.{arith}
 use Rattle.plan_writing.specs.Bodies.{widthIn}
 use Rattle.plan_writing.proofs.width_of.Statement.{statement}
 use Rattle.plan_writing.proofs.width_of.Tie as tie

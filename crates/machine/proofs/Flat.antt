@@ -60,12 +60,7 @@ pub row-length : (base n : ℕ) (f : ℕ → ℕ → ℕ) (l : List ℕ) → len
 row-length base zero f l = refl
 row-length base (suc n) f l = length-set (updateRow base n f l) (base + n) (f n (getD l (base + n) 0)) ∙ row-length base n f l
 
--- before the row, and past it
-pub row-before : (base n : ℕ) (f : ℕ → ℕ → ℕ) (l : List ℕ) (k : ℕ) → k < base → getD (updateRow base n f l) k 0 ≡ getD l k 0
-row-before base zero f l k h = refl
-row-before base (suc n) f l k h =
-    getD-set-other (updateRow base n f l) (base + n) k (f n (getD l (base + n) 0)) 0 (λ e. omega arith) ∙ row-before base n f l k h
-
+-- past the row
 pub row-past : (base n : ℕ) (f : ℕ → ℕ → ℕ) (l : List ℕ) (k : ℕ) → base + n ≤ k → getD (updateRow base n f l) k 0 ≡ getD l k 0
 row-past base zero f l k h = refl
 row-past base (suc n) f l k h =
@@ -101,9 +96,6 @@ rows-flat (suc m) n f l =
 -- ---- the laws of a table, at each row and column
 pub rows-length : (m n : ℕ) (f : ℕ → ℕ → ℕ → ℕ) (l : List ℕ) → length (updateRows m n f l) ≡ length l
 rows-length m n f l = rw (rows-flat m n f l) (row-length 0 (m * n) (λ k. f (k / n) (k % n)) l)
-
-pub rows-past : (m n : ℕ) (f : ℕ → ℕ → ℕ → ℕ) (l : List ℕ) (k : ℕ) → m * n ≤ k → getD (updateRows m n f l) k 0 ≡ getD l k 0
-rows-past m n f l k h = rw (rows-flat m n f l) (row-past 0 (m * n) (λ j. f (j / n) (j % n)) l k (omega arith))
 
 pub rows-at : (m n : ℕ) (f : ℕ → ℕ → ℕ → ℕ) (l : List ℕ) → m * n ≤ length l → (c i : ℕ) → c < m → i < n
     → getD (updateRows m n f l) (c * n + i) 0 ≡ f c i (getD l (c * n + i) 0)

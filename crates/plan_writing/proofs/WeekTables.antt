@@ -6,6 +6,7 @@ use mathlib.Core.List.{List}
 use native.Mathlib.Omega.{arith}
 use native.Mathlib.Nat.{mul-comm, div-add-mod}
 use native.Mathlib.Decide.{ℕ-discrete}
+use lib.ListN.{length}
 use Rattle.mathematics.specs.Below.{sumBelow, is}
 use Rattle.mathematics.proofs.Below.{sum-ext, sum-first, sum-only, sum-zero, is-same, is-other}
 use Rattle.mathematics.proofs.Join.{row-of, column-of}
@@ -13,10 +14,10 @@ use Rattle.sections.specs.declared.Shape.{Shape}
 use Rattle.sections.specs.declared.Form.the-variants.{Good}
 use Rattle.slot_file.specs.Slots.{slotCount, slotAt, slotsBefore, slotsOf}
 use Rattle.slot_file.specs.Form.{slotForm}
-use Rattle.slot_file.proofs.SlotReads.{slot-good, slot-below}
+use Rattle.slot_file.proofs.SlotReads.{slot-good, slot-below, slot-inside}
 use Rattle.model.specs.RunTables.{orderOfSlots, whoRan, whoFirst, whoLast, neighbours, placesFrom, minutesOf, lineTables, runTables}
 use Rattle.plant_file.specs.Plant.{plantOf}
-use Rattle.plan_writing.specs.Run.{passage}
+use Rattle.plan_writing.specs.Run.{WeekOf, passage}
 use Rattle.plan_writing.specs.Bodies.{rowIn}
 use Rattle.plan_writing.specs.Marks.{slotIn, previousIn, later, markOf, strideIn, cellIn, marked}
 use Rattle.plan_writing.proofs.Scatter.{stored}
@@ -28,11 +29,20 @@ module _ (f : Shape) (s : List ℕ) (w : ℕ) (good : slotForm f s ≡ Good f) (
   pub some-slot : 1 ≤ slotCount s w
   some-slot = slot-good f f s good .some w l
 
-  pub slot-known : (j k : ℕ) → j ≡ slotsBefore s w + k → k < slotCount s w → j < slotsBefore s (f .weeks)
-  slot-known j k e m = omega (arith, slot-below s (f .weeks) w k l m)
-
   pub product-below : (k : ℕ) → k < slotCount s w → slotIn s w k .product < f .products
   product-below k m = slot-good f f s good .product (slotsBefore s w + k) (slot-below s (f .weeks) w k l m)
+
+-- slot k of a week is slot first + k of all, and lies within the file
+module _ {f : Shape} {s : List ℕ} {w first : ℕ} (h : WeekOf f s w first) (k : ℕ) where
+  pub slot-place : first + k ≡ slotsBefore s w + k
+  slot-place = omega (arith, h .begins)
+
+  module _ (l : k < slotCount s w) where
+    pub slot-known : first + k < slotsBefore s (f .weeks)
+    slot-known = omega (arith, slot-place, slot-below s (f .weeks) w k (h .below) l)
+
+    pub slot-held : first + k ≤ length s
+    slot-held = omega (arith, slot-inside f s (h .good) (first + k) slot-known)
 
 -- the slots before the next week
 pub before-next : (s : List ℕ) (w : ℕ) → slotsBefore s (suc w) ≡ slotsBefore s w + slotCount s w

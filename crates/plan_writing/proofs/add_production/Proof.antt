@@ -10,8 +10,7 @@ use Rattle.mathematics.specs.Below.{is}
 use Rattle.mathematics.proofs.Below.{is-le}
 use Rattle.plant_file.specs.Plant.{plantOf}
 use Rattle.slot_file.specs.Slots.{slotCount, slotAt, slotsBefore}
-use Rattle.slot_file.proofs.SlotReads.{slot-inside}
-use Rattle.plan_writing.proofs.WeekTables.{slot-known, made, made-all}
+use Rattle.plan_writing.proofs.WeekTables.{slot-place, slot-known, slot-held, made, made-all}
 use Rattle.plan_writing.proofs.Rows.{slot-added}
 use Rattle.plan_writing.proofs.add_production.Statement.{statement}
 use Rattle.plan_writing.proofs.add_production.Tie as tie
@@ -25,21 +24,17 @@ Inv-loop row₀ plant slots f week first total k₀ row k =
 abbrev μ-loop : tie.MeasureT-loop
 μ-loop row₀ plant slots f week first total k₀ row k = total - k
 
--- slot k of the week is one of all
+-- slot k of the week
+below : (c : tie.In-loop Inv-loop μ-loop) → let a = c .before .before .before .before .before .before .args in
+    c .before .loop .k < slotCount (a .slots .now) (a .week)
+below c = omega (arith, c .loop-test .taken, c .before .before .slot-count .ensures .0)
+
 there : (c : tie.In-loop Inv-loop μ-loop) → let a = c .before .before .before .before .before .before .args in
     a .first + c .before .loop .k < slotsBefore (a .slots .now) (a .f .weeks)
-there c =
-    let s = c .before .before .before .before .before .before in
-    let a = s .args in
-    let w = s .pre .1 in
-    slot-known (a .f) (a .slots .now) (a .week) (w .good) (w .below) _ (c .before .loop .k) (omega (arith, w .begins))
-    (omega (arith, c .loop-test .taken, c .before .before .slot-count .ensures .0))
+there c = slot-known (c .before .before .before .before .before .before .pre .1) (c .before .loop .k) (below c)
 
--- and its place is less than the file's length
 add-j : tie.Need-add-j Inv-loop μ-loop
-add-j c =
-    let s = c .before .before .before .before .before .before in
-    omega (arith, slot-inside (s .args .f) (s .args .slots .now) (s .pre .1 .good) (s .args .first + c .before .loop .k) (there c) .1)
+add-j c = omega (arith, slot-held (c .before .before .before .before .before .before .pre .1) (c .before .loop .k) (below c))
 
 -- what the slot makes
 made-most : (c : tie.After-rate Inv-loop μ-loop) → c .rate .result * c .before .before .slot-minutes .result ≤ 6553600000
@@ -60,7 +55,7 @@ loop-again c =
     let a = s .args in
     let g : ℕ → ℕ = λ j. getD (a .row .now) j 0 + made (plantOf (a .f) (a .plant .now) .line .rate) (a .slots .now) (a .week) (b .k) j in
     let product = d .slot-product .result in
-    let place : a .first + b .k ≡ slotsBefore (a .slots .now) (a .week) + b .k = omega (arith, s .pre .1 .begins) in
+    let place = slot-place (s .pre .1) (b .k) in
     let product-is = d .slot-product .ensures .0 ∙ ap (λ (j : ℕ). slotAt (a .slots .now) j .product) place in
     let minutes-is = c .before .before .slot-minutes .ensures .0 ∙ ap (λ (j : ℕ). slotAt (a .slots .now) j .minutes) place in
     let rate-is = c .rate .ensures .0 ∙ ap (plantOf (a .f) (a .plant .now) .line .rate) product-is in

@@ -11,11 +11,11 @@ use Rattle.mathematics.proofs.Below.{sum-zero}
 use Rattle.numbers.specs.Number.{encode, store}
 use Rattle.numbers.proofs.Number.{encode-ext}
 use Rattle.slot_file.specs.Slots.{slotCount, slotAt, slotsBefore}
-use Rattle.slot_file.proofs.SlotReads.{slot-inside}
+use Rattle.plan_writing.specs.Run.{WeekOf}
 use Rattle.plan_writing.specs.Bodies.{columnsIn}
 use Rattle.plan_writing.specs.Marks.{slotIn, previousIn, markOf, shownFrom, shownTo, strideIn, cellIn, marked}
 use Rattle.plan_writing.proofs.Scatter.{zero-table, stored, slot-stored}
-use Rattle.plan_writing.proofs.WeekTables.{some-slot, slot-known}
+use Rattle.plan_writing.proofs.WeekTables.{some-slot, slot-place, slot-known, slot-held}
 use Rattle.plan_writing.proofs.MarkCells.{sum-tail, shown-within, none-before, none-after, mark-is, cell-below, cell-apart}
 use Rattle.plan_writing.proofs.write_marks.Statement.{statement}
 use Rattle.plan_writing.proofs.write_marks.Tie as tie
@@ -90,11 +90,8 @@ module _ (d : tie.In-loop Inv-loop μ-loop) where
   k-below : k < total here
   k-below = omega (arith, d .loop-test .taken, to-is here, within here .1)
 
-  place-is : start here .args .first + k ≡ slotsBefore (slots here) (week here) + k
-  place-is = omega (arith, start here .pre .0 .begins)
-
-  known : start here .args .first + k < slotsBefore (slots here) (start here .args .f .weeks)
-  known = slot-known (start here .args .f) (slots here) (week here) (start here .pre .0 .good) (start here .pre .0 .below) _ k place-is k-below
+  week-here : WeekOf (start here .args .f) (slots here) (week here) (start here .args .first)
+  week-here = start here .pre .0
 
 -- its cell and what it stores there
 module _ (e : tie.After-slot-product2 Inv-loop μ-loop) where
@@ -102,12 +99,12 @@ module _ (e : tie.After-slot-product2 Inv-loop μ-loop) where
   d = e .before .before .before
 
   product-is : e .before .before .slot-product .result ≡ slotIn (slots (here d)) (week (here d)) (k d) .product
-  product-is = e .before .before .slot-product .ensures .0 ∙ ap (λ (j : ℕ). slotAt (slots (here d)) j .product) (place-is d)
+  product-is = e .before .before .slot-product .ensures .0 ∙ ap (λ (j : ℕ). slotAt (slots (here d)) j .product) (slot-place (week-here d) (k d))
 
   previous-is : e .slot-product2 .result ≡ previousIn (slots (here d)) (week (here d)) (k d)
   previous-is =
       let before : e .before .slot-before .result ≡ slotsBefore (slots (here d)) (week (here d)) + k d - 1 =
-      omega (arith, e .before .slot-before .ensures, place-is d) in
+      omega (arith, e .before .slot-before .ensures, slot-place (week-here d) (k d)) in
       e .slot-product2 .ensures .0 ∙ ap (λ (j : ℕ). slotAt (slots (here d)) j .product) before
 
   cell-is : (here d) .before .before .before .stride-of .result * e .slot-product2 .result + e .before .before .slot-product .result
@@ -193,10 +190,11 @@ write-marks-spec =
     (λ c κs. let s = c .before .before .before .before .before .before .before .before .before .before .before in
     (omega (arith, c .before .before .before .slot-count .ensures .1), s .pre .1))
     loop-holds
-    (λ c. omega (arith, slot-inside (start (c .before .before) .args .f) (slots (c .before .before)) (start (c .before .before) .pre .0 .good) _ (known c)))
-    (λ c κs. (start (c .before .before) .pre .0 .good, known c))
+    (λ c. omega (arith, slot-held (week-here c) (k c) (k-below c)))
+    (λ c κs. (week-here c .good, slot-known (week-here c) (k c) (k-below c)))
     (λ c κs. search needs)
-    (λ c κs. (start (c .before .before .before .before) .pre .0 .good, omega (arith, known (c .before .before), c .slot-before .ensures)))
+    (λ c κs. let d = c .before .before in
+    (week-here d .good, omega (arith, slot-known (week-here d) (k d) (k-below d), c .slot-before .ensures)))
     (λ c. omega (arith, product-most (c .before)))
     (λ c. omega (arith, cell-inside (c .before), (here (d (c .before))) .before .before .before .before .before .before .before .before .columns-of .ensures))
     (λ c. omega (arith, rise-most (c .before)))

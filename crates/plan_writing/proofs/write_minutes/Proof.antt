@@ -11,11 +11,10 @@ use Rattle.numbers.proofs.Number.{encode-ext, room}
 use Rattle.mathematics.specs.Below.{is}
 use Rattle.mathematics.proofs.Below.{sum-ext}
 use Rattle.slot_file.specs.Slots.{slotCount, slotAt, slotsBefore, slotsOf}
-use Rattle.slot_file.proofs.SlotReads.{slot-inside}
 use Rattle.plan_writing.specs.Marks.{slotIn}
 use Rattle.plan_writing.proofs.Scatter.{zero-table, stored, slot-stored}
 use Rattle.plan_writing.proofs.WeekSums.{minutes-sum}
-use Rattle.plan_writing.proofs.WeekTables.{slot-known}
+use Rattle.plan_writing.proofs.WeekTables.{slot-place, slot-known, slot-held}
 use Rattle.plan_writing.proofs.write_minutes.Statement.{statement}
 use Rattle.plan_writing.proofs.write_minutes.Tie as tie
 
@@ -46,11 +45,8 @@ module _ (d : tie.In-loop Inv-loop μ-loop) where
   k-below : k < slotCount slots (start .args .week)
   k-below = omega (arith, d .loop-test .taken, d .before .before .slot-count .ensures .0)
 
-  place-is : start .args .first + k ≡ slotsBefore slots (start .args .week) + k
-  place-is = omega (arith, start .pre .0 .begins)
-
-  known : start .args .first + k < slotsBefore slots (start .args .f .weeks)
-  known = slot-known (start .args .f) slots (start .args .week) (start .pre .0 .good) (start .pre .0 .below) _ k place-is k-below
+  there : start .args .first + k < slotsBefore slots (start .args .f .weeks)
+  there = slot-known (start .pre .0) k k-below
 
   -- the output has room for all
   fits : 2 * start .args .f .products ≤ length (d .before .loop .out)
@@ -61,8 +57,8 @@ loop-again q =
     let e = q .before .before .before .before in
     let g = e .before .before in
     let a = start g .args in
-    let product-is = e .before .slot-product .ensures .0 ∙ ap (λ (j : ℕ). slotAt (slots g) j .product) (place-is g) in
-    let minutes-is = e .slot-minutes .ensures .0 ∙ ap (λ (j : ℕ). slotAt (slots g) j .minutes) (place-is g) in (
+    let product-is = e .before .slot-product .ensures .0 ∙ ap (λ (j : ℕ). slotAt (slots g) j .product) (slot-place (start g .pre .0) (k g)) in
+    let minutes-is = e .slot-minutes .ensures .0 ∙ ap (λ (j : ℕ). slotAt (slots g) j .minutes) (slot-place (start g .pre .0) (k g)) in (
       search needs,
       search needs,
       λ s h. q .before .before .write .ensures
@@ -101,9 +97,9 @@ write-minutes-spec =
     (λ c κs. omega (arith, c .count .ensures .0, c .before .before .before .before .pre .1))
     (λ c κs. let s = c .before .before .before .before .before .before .before in (s .pre .0 .good, s .pre .0 .below))
     (λ c. (search needs, refl, λ s e. e))
-    (λ c. omega (arith, slot-inside (start c .args .f) (slots c) (start c .pre .0 .good) _ (known c)))
-    (λ c κs. (start c .pre .0 .good, known c))
-    (λ c κs. (start (c .before) .pre .0 .good, known (c .before)))
+    (λ c. omega (arith, slot-held (start c .pre .0) (k c) (k-below c)))
+    (λ c κs. (start c .pre .0 .good, there c))
+    (λ c κs. (start (c .before) .pre .0 .good, there (c .before)))
     (λ c. omega (arith, c .before .before .slot-product .ensures .1, start (c .before .before .before) .pre .1))
     (λ c κs. omega (arith, fits (c .before .before .before), room 2 (c .before .before .slot-product .ensures .1)))
     (λ c. search needs)

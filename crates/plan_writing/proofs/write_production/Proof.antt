@@ -10,10 +10,9 @@ use Rattle.numbers.specs.Number.{encode, store}
 use Rattle.numbers.proofs.Number.{encode-ext, room}
 use Rattle.plant_file.specs.Plant.{plantOf}
 use Rattle.slot_file.specs.Slots.{slotCount, slotAt, slotsBefore}
-use Rattle.slot_file.proofs.SlotReads.{slot-inside}
 use Rattle.plan_writing.specs.Marks.{slotIn}
 use Rattle.plan_writing.proofs.Scatter.{zero-table, slot-stored}
-use Rattle.plan_writing.proofs.WeekTables.{slot-known, made, made-all}
+use Rattle.plan_writing.proofs.WeekTables.{slot-place, slot-known, slot-held, made, made-all}
 use Rattle.plan_writing.proofs.write_production.Statement.{statement}
 use Rattle.plan_writing.proofs.write_production.Tie as tie
 
@@ -41,11 +40,8 @@ module _ (d : tie.In-loop Inv-loop μ-loop) where
   k-below : k < slotCount slots (start .args .week)
   k-below = omega (arith, d .loop-test .taken, d .before .before .slot-count .ensures .0)
 
-  place-is : start .args .first + k ≡ slotsBefore slots (start .args .week) + k
-  place-is = omega (arith, start .pre .1 .begins)
-
-  known : start .args .first + k < slotsBefore slots (start .args .f .weeks)
-  known = slot-known (start .args .f) slots (start .args .week) (start .pre .1 .good) (start .pre .1 .below) _ k place-is k-below
+  there : start .args .first + k < slotsBefore slots (start .args .f .weeks)
+  there = slot-known (start .pre .1) k k-below
 
   -- the output has room for all
   fits : 4 * start .args .f .products ≤ length (d .before .loop .out)
@@ -56,9 +52,9 @@ loop-again q =
     let e = q .before .before .before in
     let g = e .before .before .before .before in
     let a = start g .args in
-    let product-is = e .before .before .before .slot-product .ensures .0 ∙ ap (λ (j : ℕ). slotAt (slots g) j .product) (place-is g) in
+    let product-is = e .before .before .before .slot-product .ensures .0 ∙ ap (λ (j : ℕ). slotAt (slots g) j .product) (slot-place (start g .pre .1) (k g)) in
     let rate = plantOf (a .f) (a .plant .now) .line .rate in
-    let minutes-is = e .before .before .slot-minutes .ensures .0 ∙ ap (λ (j : ℕ). slotAt (slots g) j .minutes) (place-is g) in (
+    let minutes-is = e .before .before .slot-minutes .ensures .0 ∙ ap (λ (j : ℕ). slotAt (slots g) j .minutes) (slot-place (start g .pre .1) (k g)) in (
       search needs,
       search needs,
       λ s h. q .before .before .write .ensures
@@ -96,9 +92,9 @@ write-production-spec =
     (λ c κs. omega (arith, c .count .ensures .0, c .before .before .before .before .before .pre .2))
     (λ c κs. let s = c .before .before .before .before .before .before .before .before in (s .pre .1 .good, s .pre .1 .below))
     (λ c. (search needs, refl, λ s e. e))
-    (λ c. omega (arith, slot-inside (start c .args .f) (slots c) (start c .pre .1 .good) _ (known c)))
-    (λ c κs. (start c .pre .1 .good, known c))
-    (λ c κs. (start (c .before) .pre .1 .good, known (c .before)))
+    (λ c. omega (arith, slot-held (start c .pre .1) (k c) (k-below c)))
+    (λ c κs. (start c .pre .1 .good, there c))
+    (λ c κs. (start (c .before) .pre .1 .good, there (c .before)))
     (λ c. omega (arith, c .before .before .slot-product .ensures .1, start (c .before .before .before) .pre .2))
     (λ c κs. (start (c .before .before .before) .pre .0, c .before .before .slot-product .ensures .1))
     (λ c. let most : c .before .before .slot-minutes .result ≤ 65536 = omega (arith, c .before .before .slot-minutes .ensures .1) in

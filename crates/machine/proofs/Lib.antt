@@ -1,3 +1,4 @@
+pub mod Digits
 pub mod Signed
 pub mod Plants
 pub mod Flat

@@ -2,7 +2,7 @@
 use Prim.Native.Nat.{ℕ, suc, _+_, _*_, _-_, _/_, _%_, _^_, _≤_, _<_}
 use mathlib.Core.Path.{_≡_, refl, sym, ap, _∙_}
 use mathlib.Core.Logic.{_≢_}
-use mathlib.Core.Bool.{true}
+use mathlib.Core.Bool.{true, false}
 use mathlib.Core.List.{List, [], _∷_}
 use native.Mathlib.Omega.{arith}
 use native.Mathlib.Decide.{ℕ-discrete}
@@ -26,7 +26,7 @@ use Rattle.machine.specs.declared.Mounted.the-variants.{Nothing, Product
 use Rattle.machine.specs.declared.State.{State}
 use Rattle.machine.specs.declared.Step.{Step}
 use Rattle.machine.specs.declared.Outcome.the-variants.{Continues}
-use Rattle.machine.specs.State.{inventoryOf, withInventory, withBacklog, withWeek, withProfit, withMounted, continues}
+use Rattle.machine.specs.State.{inventoryOf, hasRun, withInventory, withBacklog, withWeek, withProfit, withMounted, continues}
 use Rattle.machine.specs.Machine.{changeoverTo, weekBegin, clockAfter, slotDone, slotStep, soldOf}
 use Rattle.machine.specs.Machine.{inventoryAfter, backlogAfter, storageKept, booked, weekDone, weekEnd}
 use Rattle.machine.specs.Run.{opening, runSlots, runWeek}
@@ -36,6 +36,7 @@ use Rattle.machine.proofs.Signed.{mag-sub, mag-add}
 use Rattle.machine.proofs.Plants.{counts}
 use Rattle.machine.proofs.Flat.{row-length, row-first, rows-length, rows-flat}
 use Rattle.machine.proofs.PairTables.{backlogAt, chargeAt, backlog-flat, charge-flat}
+use Rattle.machine.proofs.Digits.{digit-unset, digit-room}
 use Rattle.machine.proofs.Steps.{slot-went, week-went, storage-at}
 use Rattle.machine.proofs.Runs.{then-went, went}
 
@@ -57,6 +58,7 @@ sane-more {f} {w} {k} {v} {j} {s} h l m =
       backlog-most = λ i r. omega (arith, h .backlog-most i r);
       clock-most = h .clock-most;
       profit-most = omega (arith, h .profit-most);
+      ran-most = h .ran-most;
       mounted-below = h .mounted-below;
     }
 
@@ -74,6 +76,7 @@ begin-sane h =
       backlog-most = h .backlog-most;
       clock-most = omega arith;
       profit-most = h .profit-most;
+      ran-most = omega arith;
       mounted-below = h .mounted-below;
     }
 
@@ -96,9 +99,10 @@ module _ (plant : List ℕ) (f : Shape) (good : plantForm plant ≡ Good f) wher
 
   -- a slot that does not stop
   pub slot-sane : {w k : ℕ} {s : State} (x : Slot) → x .product < f .products → Sane f w k s
-      → clockAfter (plantOf f plant) x s ≤ plantOf f plant .weekMinutes → Sane f w (k + 1) (slotDone (plantOf f plant) x s)
-  unfolding plantOf clockAfter slotDone inventoryOf withInventory withWeek withProfit withMounted
-  slot-sane {w} {k} {s} x p h l =
+      → clockAfter (plantOf f plant) x s ≤ plantOf f plant .weekMinutes → hasRun s (x .product) ≡ false
+      → Sane f w (k + 1) (slotDone (plantOf f plant) x s)
+  unfolding plantOf clockAfter slotDone inventoryOf hasRun withInventory withWeek withProfit withMounted
+  slot-sane {w} {k} {s} x p h l fresh =
       let line = plantOf f plant .line in
       let cents = cents-most (f .products) (line .changeoverCents) (ranges .line .cents-most) (s .mounted) (x .product) (h .mounted-below) p in
       let m : x .minutes ≤ 10080 = omega (arith, ranges .week-most) in
@@ -112,6 +116,7 @@ module _ (plant : List ℕ) (f : Shape) (good : plantForm plant ≡ Good f) wher
         backlog-most = h .backlog-most;
         clock-most = omega (arith, ranges .week-most);
         profit-most = omega (arith, mag-sub (s .profit .0) (1000 * changeoverTo (line .changeoverCents) (s .mounted) (x .product)), cents, h .profit-most);
+        ran-most = digit-room (x .product) 16 (s .ran) (omega (arith, ranges .products-most)) (h .ran-most) (digit-unset (s .ran) (x .product) fresh);
         mounted-below = p;
       }
 
@@ -128,6 +133,7 @@ module _ (plant : List ℕ) (f : Shape) (good : plantForm plant ≡ Good f) wher
           backlog-most = h .backlog-most;
           clock-most = h .clock-most;
           profit-most = h .profit-most;
+          ran-most = h .ran-most;
           mounted-below = h .mounted-below;
         }
 
@@ -147,6 +153,7 @@ module _ (plant : List ℕ) (f : Shape) (good : plantForm plant ≡ Good f) wher
               omega (arith, row-first n g (s .backlog) room j q, h .backlog-most j q, ranges .demand-most _ _ w (p .row) (p .column) l);
           clock-most = h .clock-most;
           profit-most = omega (arith, h .profit-most);
+          ran-most = h .ran-most;
           mounted-below = h .mounted-below;
         })
 
@@ -195,6 +202,7 @@ module _ (plant : List ℕ) (f : Shape) (good : plantForm plant ≡ Good f) wher
               backlog-most = h .backlog-most;
               clock-most = h .clock-most;
               profit-most = omega (arith, revenue-most, backlog-charge-most h, inventory-charge-most kept);
+              ran-most = h .ran-most;
               mounted-below = h .mounted-below;
             }
 
@@ -212,7 +220,7 @@ module _ (plant : List ℕ) (f : Shape) (good : plantForm plant ≡ Good f) wher
       → r .outcome ≡ Continues → Sane f w (k + 1) (r .state)
   slot-kept x r p h e q =
       let g = slot-went (plantOf f plant) x _ (r .state) (sym e ∙ went r q) in
-      rw (g .0) (slot-sane x p h (g .1))
+      rw (g .0) (slot-sane x p h (g .1) (g .2))
 
   -- slots in a row
   pub slots-kept : {w : ℕ} (xs : List Slot) → ((i : ℕ) → i < length xs → getD xs i (record { product = 0; minutes = 0 }) .product < f .products)
@@ -261,5 +269,6 @@ module _ (plant : List ℕ) (f : Shape) (good : plantForm plant ≡ Good f) wher
             (omega (arith, row-first n cells (replicate 128 0) (counts plant f good .pairs) j q, ranges .opening-backlog-most _ _ (p .row) (p .column)));
         clock-most = omega arith;
         profit-most = omega arith;
+        ran-most = omega arith;
         mounted-below = tt;
       }

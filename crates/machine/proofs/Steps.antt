@@ -67,12 +67,13 @@ module _ (P : Plant) (x : Slot) (s : State) where
   slot-goes h l m = rw (h, le-ltb _ _ l, le-ltb _ _ m)
 
   pub slot-went : (t : State) → slotStep P x s ≡ continues t → (t ≡ slotDone P x s) × (clockAfter P x s ≤ P .weekMinutes)
+      × (hasRun s (x .product) ≡ false)
   unfolding slotStep
   slot-went t e =
       let a = if-goes (hasRun s (x .product)) 25 s _ t e in
       let b = if-goes (ltb (x .minutes) (P .shortestRun)) 35 s _ t (a .1) in
       let d = if-goes (ltb (P .weekMinutes) (clockAfter P x s)) 36 s _ t (b .1) in
-      (continued (d .1), ltb-false _ _ (d .0))
+      (continued (d .1), ltb-false _ _ (d .0), a .0)
 
   pub slot-stays : (n : ℕ) → slotStep P x s .outcome ≡ Stops n → slotStep P x s .state ≡ s
   unfolding slotStep

@@ -33,6 +33,7 @@ pub record Sane (f : Shape) (w k : ℕ) (s : State) : Type 0 where
   pub backlog-most : (j : ℕ) → j < f .customers * f .products → getD (s .backlog) j 0 ≤ 100000000 * (w + 1)
   pub clock-most : s .clock .0 ≤ 10080
   pub profit-most : mag (s .profit .0) ≤ w * 120000000000000000 + k * 1000000000
+  pub ran-most : s .ran < 65536
   pub mounted-below : mountedBelow (f .products) (s .mounted)
 
 -- the widest of these: room for one more step of any run

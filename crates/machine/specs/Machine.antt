@@ -1,7 +1,7 @@
 -- The plant machine's three steps, as paper 01 has them under "The plant machine". Assumes nothing.
-use Prim.Native.Nat.{ℕ, _+_, _*_, _-_}
+use Prim.Native.Nat.{ℕ, _+_, _*_, _-_, _^_}
 use mathlib.Core.Bool.{Bool, true, false, not}
-use lib.ListN.{set, replicate}
+use lib.ListN.{set}
 use lib.Dec.{leb, ltb}
 use lib.IntN.{pos, _+ℤ_, _-ℤ_}
 use Rattle.mathematics.specs.Below.{sumBelow, allBelow, within}
@@ -18,7 +18,7 @@ use Rattle.machine.specs.State.{updateRow, updateRows, continues, stopIf
 
 -- ---- "Week begins: clock 0, no product run."
 unfoldable pub weekBegin : State → State
-weekBegin s = withWeek s (replicate 16 false) 0
+weekBegin s = withWeek s 0 0
 
 -- ---- a slot (p, m)
 -- "If something is mounted": the entry of a table from what is mounted to p
@@ -37,7 +37,7 @@ slotDone P x s =
     (withProfit
     (withWeek
     (withInventory s (set (s .inventory) (x .product) (inventoryOf s (x .product) + P .line .rate (x .product) * x .minutes)))
-    (set (s .ran) (x .product) true) (clockAfter P x s))
+    (s .ran + 2 ^ x .product) (clockAfter P x s))
     (s .profit .0 -ℤ pos (1000 * changeoverTo (P .line .changeoverCents) (s .mounted) (x .product))))
     (Product (x .product))
 

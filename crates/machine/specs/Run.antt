@@ -1,6 +1,5 @@
 -- The run of a slot file, as paper 01 has it under "The plant machine". Assumes nothing.
 use Prim.Native.Nat.{ℕ, zero, suc, _+_}
-use mathlib.Core.Bool.{false}
 use mathlib.Core.List.{List, [], _∷_}
 use lib.ListN.{replicate}
 use lib.IntN.{pos}
@@ -18,7 +17,7 @@ opening P =
     record {
       inventory = updateRow 0 (P .products) (λ i _. P .openingInventory i) (replicate 16 0);
       backlog = updateRows (P .customers) (P .products) (λ c i _. P .openingBacklog c i) (replicate 128 0);
-      ran = replicate 16 false;
+      ran = 0;
       clock = record { 0 = 0 };
       profit = record { 0 = pos 0 };
       mounted = Nothing;

@@ -1,6 +1,7 @@
 -- The state of the plant machine: what it holds, and how a step leaves it. Assumes nothing.
-use Prim.Native.Nat.{ℕ, zero, suc, _+_, _*_}
+use Prim.Native.Nat.{ℕ, zero, suc, _+_, _*_, _/_, _%_, _^_}
 use mathlib.Core.Bool.{Bool, true, false}
+use lib.Dec.{eqb}
 use mathlib.Core.List.{List}
 use lib.ListN.{getD, set}
 use lib.IntN.{ℤ}
@@ -18,9 +19,9 @@ inventoryOf s i = getD (s .inventory) i 0
 unfoldable pub backlogOf : ℕ → State → ℕ → ℕ → ℕ
 backlogOf N s c i = getD (s .backlog) (c * N + i) 0
 
--- product i has run this week
+-- product i has run this week: binary digit i of the state's number
 unfoldable pub hasRun : State → ℕ → Bool
-hasRun s i = getD (s .ran) i false
+hasRun s i = eqb (s .ran / 2 ^ i % 2) 1
 
 -- ---- one part of the state anew
 unfoldable pub withInventory : State → List ℕ → State
@@ -31,7 +32,7 @@ unfoldable pub withBacklog : State → List ℕ → State
 withBacklog s l =
     record { inventory = s .inventory; backlog = l; ran = s .ran; clock = s .clock; profit = s .profit; mounted = s .mounted }
 
-unfoldable pub withWeek : State → List Bool → ℕ → State
+unfoldable pub withWeek : State → ℕ → ℕ → State
 withWeek s l m =
     record { inventory = s .inventory; backlog = s .backlog; ran = l; clock = record { 0 = m }; profit = s .profit; mounted = s .mounted }
 

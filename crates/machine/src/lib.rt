@@ -13,7 +13,7 @@ ghost use Rattle.plant_file.specs.Form.{plantForm};
 ghost use Rattle.slot_file.specs.Slots.{slotAt, slotsBefore, slotsOf};
 ghost use Rattle.slot_file.specs.Form.{slotForm};
 ghost use Rattle.machine.specs.Machine.{weekBegin, clockAfter, slotDone, slotStep, weekOutcome, weekEnd};
-ghost use Rattle.machine.specs.State.{updateRow, updateRows, andThen};
+ghost use Rattle.machine.specs.State.{hasRun, updateRow, updateRows, andThen};
 ghost use Rattle.machine.specs.declared.Outcome.the-variants.{Continues};
 ghost use Rattle.machine.specs.Row.{slotOf, slotsIn, Runnable};
 ghost use Rattle.machine.specs.Run.{opening, runSlots, runWeek, run};
@@ -71,8 +71,8 @@ pub struct State {
     pub backlog: [u64; 128],
     // Profit so far (the paper's purse).
     pub profit: Profit,
-    // The products run this week.
-    pub ran: [bool; 16],
+    // The products run this week: binary digit i for product i.
+    pub ran: u64,
     pub mounted: Mounted,
 }
 
@@ -243,7 +243,7 @@ impl State {
         ensures { λ r. ⌜ r ≡ weekBegin self ⌝ }
     {
         let mut s = self;
-        s.ran = [false; 16];
+        s.ran = 0;
         s.clock.0 = 0;
         s
     }
@@ -268,8 +268,7 @@ impl State {
         let grams = produced(rate(plant, f, product), time);
         let mut inventory = self.inventory;
         inventory[product] = inventory[product] + grams.0;
-        let mut ran = self.ran;
-        ran[product] = true;
+        let ran = self.ran + (1u64 << product);
         let clock = self.clock_after(plant, f, product, time);
         let profit = pay(self.profit, 1000 * over.cents.0);
         State {
@@ -282,13 +281,20 @@ impl State {
         }
     }
 
+    // Whether a product has run this week.
+    fn has_run(self, product: usize) -> bool
+        requires { ⌜ product < 16 ⌝ }
+        ensures { λ r. ⌜ r ≡ hasRun self product ⌝ }
+    {
+        (self.ran >> product) % 2 == 1
+    }
+
     // How a run ends: stop 25, 35 or 36, or none.
     fn slot_outcome(self, plant: &[u8], f: Shape, product: usize, time: Minutes) -> Outcome
         requires { ⌜ (plantForm (now plant) ≡ Good f) × (product < f .products) × (time .0 < 2 ^ 16) × Roomy f self ⌝ }
         ensures { λ r. ⌜ r ≡ slotStep (plantOf f (now (plant .entry))) (record { product = product; minutes = time .0 }) self .outcome ⌝ }
     {
-        let ran = self.ran;
-        if ran[product] {
+        if self.has_run(product) {
             return Outcome::Stops(25);
         }
         if time.0 < shortest_run(plant, f) {
@@ -516,7 +522,7 @@ pub fn opening_state(plant: &[u8], f: Shape) -> State
         clock: Minutes(0),
         backlog,
         profit: Profit(0),
-        ran: [false; 16],
+        ran: 0,
         mounted: Mounted::Nothing,
     }
 }

@@ -1,12 +1,14 @@
 -- The machine's state, part by part, before and after each step: its arrays keep their lengths, and each cell changes as the paper says.
 -- Assumes nothing.
-use Prim.Native.Nat.{ℕ, _+_, _*_, _-_, _<_, _≤_}
-use mathlib.Core.Path.{_≡_, refl, _∙_}
+use Prim.Native.Nat.{ℕ, _+_, _*_, _-_, _/_, _^_, _<_, _≤_}
+use mathlib.Core.Path.{_≡_, refl, sym, ap, _∙_}
 use mathlib.Core.Bool.{Bool, true, false}
 use native.Mathlib.Omega.{arith}
 use native.Mathlib.Decide.{ℕ-discrete}
 use native.Mathlib.Nat.{mul-le-mul}
-use lib.ListN.{length, length-set, getD-replicate, replicate}
+use lib.Dec.{eqb}
+use lib.ListN.{length, length-set, replicate}
+use borrow.Author.Tests.{eq-eqb, ne-eqb}
 use lib.Seq.{getD-set-same, getD-set-other}
 use lib.IntN.{pos, _+ℤ_, _-ℤ_}
 use Rattle.mathematics.specs.Below.{sumBelow, is}
@@ -18,18 +20,25 @@ use Rattle.machine.specs.declared.State.{State}
 use Rattle.machine.specs.State.{inventoryOf, backlogOf, hasRun, withInventory, withBacklog, withWeek, withProfit, withMounted}
 use Rattle.machine.specs.Machine.{weekBegin, clockAfter, slotDone, soldOf, inventoryAfter, backlogAfter, booked, weekDone}
 use Rattle.machine.specs.Run.{opening}
+use Rattle.machine.proofs.Digits.{digit, digit-set, digit-two, digit-unset, digit-zero}
 use Rattle.machine.proofs.Flat.{row-length, row-first, rows-length, rows-at}
 
 -- the lengths of the struct's arrays
 pub record Lengths (s : State) : Type 0 where
   pub inventory : length (s .inventory) ≡ 16
   pub backlog : length (s .backlog) ≡ 128
-  pub ran : length (s .ran) ≡ 16
 
 -- 1 for true, 0 for false
 abbrev pub mark : Bool → ℕ
 mark true = 1
 mark false = 0
+
+mark-digit : (i m : ℕ) → mark (eqb (digit i m) 1) ≡ digit i m
+mark-digit i m =
+    elim (ℕ-discrete (digit i m) 1) [
+      | yes e ↦ ap mark (eq-eqb (digit i m) 1 e) ∙ sym e
+      | no d ↦ ap mark (ne-eqb (digit i m) 1 d) ∙ sym (digit-two (m / 2 ^ i) d)
+    ]
 
 -- ---- the lengths are kept
 pub opening-lengths : (P : Plant) → Lengths (opening P)
@@ -38,12 +47,11 @@ opening-lengths P =
     record {
       inventory = row-length 0 (P .products) (λ i _. P .openingInventory i) (replicate 16 0);
       backlog = rows-length (P .customers) (P .products) (λ c i _. P .openingBacklog c i) (replicate 128 0);
-      ran = refl;
     }
 
 pub begin-lengths : {s : State} → Lengths s → Lengths (weekBegin s)
 unfolding weekBegin withWeek
-begin-lengths h = record { inventory = h .inventory; backlog = h .backlog; ran = refl }
+begin-lengths h = record { inventory = h .inventory; backlog = h .backlog }
 
 pub slot-lengths : (P : Plant) (x : Slot) {s : State} → Lengths s → Lengths (slotDone P x s)
 unfolding slotDone withInventory withWeek withProfit withMounted
@@ -51,7 +59,6 @@ slot-lengths P x {s} h =
     record {
       inventory = simp length-set (h .inventory);
       backlog = h .backlog;
-      ran = simp length-set (h .ran);
     }
 
 pub week-lengths : (P : Plant) (w : ℕ) (sales : ℕ → ℕ → ℕ) {s : State} → Lengths s → Lengths (weekDone P w sales s)
@@ -60,7 +67,6 @@ week-lengths P w sales {s} h =
     record {
       inventory = row-length 0 (P .products) (λ i stock. stock - soldOf P sales i) (s .inventory) ∙ h .inventory;
       backlog = rows-length (P .customers) (P .products) (λ c i owed. owed + P .demand c i w - sales c i) (s .backlog) ∙ h .backlog;
-      ran = h .ran;
     }
 
 -- ---- the cells
@@ -79,7 +85,7 @@ module _ (P : Plant) (R : PlantRanges P) where
 
   pub begin-ran : (s : State) (i : ℕ) → i < P .products → hasRun (weekBegin s) i ≡ false
   unfolding weekBegin withWeek hasRun
-  begin-ran s i l = getD-replicate 16 i false false (omega (arith, R .products-most))
+  begin-ran s i l = ne-eqb (digit i 0) 1 (λ e. absurd (omega (arith, digit-zero i, e)))
 
   module _ (x : Slot) (s : State) (h : Lengths s) (l : x .product < P .products) where
     pub slot-inventory : (i : ℕ) → inventoryOf (slotDone P x s) i ≡ inventoryOf s i + is (x .product) i * (P .line .rate (x .product) * x .minutes)
@@ -93,15 +99,10 @@ module _ (P : Plant) (R : PlantRanges P) where
 
     pub slot-ran : hasRun s (x .product) ≡ false → (i : ℕ) → mark (hasRun (slotDone P x s) i) ≡ mark (hasRun s i) + is (x .product) i
     unfolding slotDone hasRun withInventory withWeek withProfit withMounted
-    slot-ran fresh i = elim (ℕ-discrete (x .product) i) [
-      | yes e ↦ rw (
-        is-same (x .product) i e,
-        ← e,
-        fresh,
-        getD-set-same (s .ran) (x .product) true false (omega (arith, h .ran, R .products-most)),
-      )
-      | no d ↦ rw (is-other (x .product) i d, getD-set-other (s .ran) (x .product) i true false (λ e. d (omega arith))) (omega arith)
-    ]
+    slot-ran fresh i =
+        mark-digit i (s .ran + 2 ^ x .product)
+        ∙ (digit-set (x .product) i (s .ran) (digit-unset (s .ran) (x .product) fresh)
+        ∙ ap (λ (n : ℕ). n + is (x .product) i) (sym (mark-digit i (s .ran))))
 
   module _ (w : ℕ) (sales : ℕ → ℕ → ℕ) (s : State) (h : Lengths s) where
     pub week-inventory : (i : ℕ) → i < P .products → inventoryOf (weekDone P w sales s) i ≡ inventoryOf s i - soldOf P sales i

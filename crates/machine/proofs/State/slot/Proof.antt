@@ -8,7 +8,7 @@ use Rattle.machine.proofs.State.slot.Tie as tie
 returns : tie.Need-returns
 unfolding withBacklog
 returns c =
-    let done = c .before .before .before .before .before in
+    let done = c .before .before .before .before in
     slot-parts _ _ _ _ _ (done .slot-state .ensures) (done .before .slot-outcome .ensures)
 
 pub slot-spec : {M : Type 1} → statement M

@@ -38,7 +38,7 @@ returns c =
 
 returns-2 : tie.Need-returns-2
 returns-2 c =
-    let paid = c .before .before .before .before in
+    let paid = c .before .before .before in
     let d = paid .before .before .before .before .before in
     let carried = d .before .before .backlog-update .ensures in
     let sold = d .before .inventory-update .ensures in

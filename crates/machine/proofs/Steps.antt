@@ -21,7 +21,7 @@ use Rattle.machine.specs.declared.Outcome.the-variants.{Continues, Stops
 use Rattle.machine.specs.State.{inventoryOf, backlogOf, hasRun, withInventory, withBacklog, withWeek, withProfit, withMounted}
 use Rattle.machine.specs.State.{continues, stops, stopIf}
 use Rattle.machine.specs.Machine.{clockAfter, slotDone, slotStep}
-use Rattle.machine.specs.Machine.{salesDue, backlogAfter, salesInStock, inventoryAfter, storageKept, booked, weekDone, weekOutcome, weekEnd}
+use Rattle.machine.specs.Machine.{salesDue, backlogAfter, salesInStock, inventoryAfter, storageKept, booked, weekDone, weekTested, weekEnd}
 use Rattle.machine.specs.Files.{BacklogUpdated, InventoryUpdated}
 
 -- a step that continues has passed its tests
@@ -119,21 +119,23 @@ module _ (P : Plant) (w : ℕ) (sales : ℕ → ℕ → ℕ) (s : State) where
 
   -- the same by the outcome of the three tests
   module _ (a b k : Bool) (due : a ≡ salesDue P w sales s) (stock : b ≡ salesInStock P sales s) (kept : k ≡ storageKept P (inventoryAfter P sales s)) where
-    pub week-stops : (o : Outcome) (n : ℕ) → o ≡ weekOutcome a b k → o ≡ Stops n → record { state = s; outcome = o } ≡ weekEnd P w sales s
-    week-stops o n e d = (λ u. record { state = s; outcome = e u }) ∙ go a b k due stock kept (sym e ∙ d)
+    pub week-stops : (o : Outcome) (n : ℕ) → ((s t : State) → o ≡ weekTested a b k s t .outcome) → o ≡ Stops n
+        → record { state = s; outcome = o } ≡ weekEnd P w sales s
+    week-stops o n e d = (λ u. record { state = s; outcome = e s s u }) ∙ go a b k due stock kept (sym (e s s) ∙ d)
       where
         go : (a b k : Bool) → a ≡ salesDue P w sales s → b ≡ salesInStock P sales s → k ≡ storageKept P (inventoryAfter P sales s)
-            → weekOutcome a b k ≡ Stops n → record { state = s; outcome = weekOutcome a b k } ≡ weekEnd P w sales s
+            → weekTested a b k s s .outcome ≡ Stops n → record { state = s; outcome = weekTested a b k s s .outcome } ≡ weekEnd P w sales s
         go false b k x y z r = sym (week-undue (sym x))
         go true false k x y z r = sym (week-oversold (sym x) (sym y))
         go true true false x y z r = sym (week-unkept (sym x) (sym y) (sym z))
         go true true true x y z r = absurd (no-stop r)
 
-    pub week-continues : (o : Outcome) → o ≡ weekOutcome a b k → o ≡ Continues → weekEnd P w sales s ≡ continues (weekDone P w sales s)
-    week-continues o e d = go a b k due stock kept (sym e ∙ d)
+    pub week-continues : (o : Outcome) → ((s t : State) → o ≡ weekTested a b k s t .outcome) → o ≡ Continues
+        → weekEnd P w sales s ≡ continues (weekDone P w sales s)
+    week-continues o e d = go a b k due stock kept (sym (e s s) ∙ d)
       where
         go : (a b k : Bool) → a ≡ salesDue P w sales s → b ≡ salesInStock P sales s → k ≡ storageKept P (inventoryAfter P sales s)
-            → weekOutcome a b k ≡ Continues → weekEnd P w sales s ≡ continues (weekDone P w sales s)
+            → weekTested a b k s s .outcome ≡ Continues → weekEnd P w sales s ≡ continues (weekDone P w sales s)
         go false b k x y z r = absurd (no-stop (sym r))
         go true false k x y z r = absurd (no-stop (sym r))
         go true true false x y z r = absurd (no-stop (sym r))

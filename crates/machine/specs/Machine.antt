@@ -9,8 +9,6 @@ use Rattle.plant_file.specs.Plant.{Plant}
 use Rattle.slot_file.specs.Slots.{Slot}
 use Rattle.machine.specs.declared.Mounted.{Mounted}
 use Rattle.machine.specs.declared.Mounted.the-variants.{Nothing, Product}
-use Rattle.machine.specs.declared.Outcome.{Outcome}
-use Rattle.machine.specs.declared.Outcome.the-variants.{Continues, Stops}
 use Rattle.machine.specs.declared.State.{State}
 use Rattle.machine.specs.declared.Step.{Step}
 use Rattle.machine.specs.State.{inventoryOf, backlogOf, hasRun, withInventory, withBacklog, withWeek, withProfit, withMounted}
@@ -30,7 +28,8 @@ changeoverTo table (Product q) p = table q p
 unfoldable pub clockAfter : Plant → Slot → State → ℕ
 clockAfter P x s = s .clock .0 + changeoverTo (P .line .changeoverMinutes) (s .mounted) (x .product) + x .minutes
 
--- "take 1000 times the cents from the purse. .. Stock of p rises by r times m; p is mounted."
+-- "take 1000 times the cents from the purse. .. Stock of p rises by r times m; p is mounted." That p ran this week is digit p of `ran`, which
+-- stop 25 has found to be 0
 unfoldable pub slotDone : Plant → Slot → State → State
 slotDone P x s =
     withMounted
@@ -88,17 +87,15 @@ booked P sales s =
 unfoldable pub weekDone : Plant → ℕ → (ℕ → ℕ → ℕ) → State → State
 weekDone P w sales s = booked P sales (backlogAfter P w sales (inventoryAfter P sales s))
 
--- the first of the three tests that fails: 38, 39, 40
-abbrev pub weekOutcome : (due inStock kept : Bool) → Outcome
-weekOutcome false inStock kept = Stops 38
-weekOutcome true false kept = Stops 39
-weekOutcome true true false = Stops 40
-weekOutcome true true true = Continues
+-- a round meets each cell once and has one number, so it stops exactly if its test fails at some cell; 38, then 39, then 40. The state is
+-- s before the week's end and t after it
+abbrev pub weekTested : (due inStock kept : Bool) → (s t : State) → Step
+weekTested due inStock kept s t =
+    stopIf (not due) 38 s
+    (stopIf (not inStock) 39 s
+    (stopIf (not kept) 40 s
+    (continues t)))
 
--- a round meets each cell once and has one number, so it stops exactly if its test fails at some cell; 38, then 39, then 40
 unfoldable pub weekEnd : Plant → ℕ → (ℕ → ℕ → ℕ) → State → Step
 weekEnd P w sales s =
-    stopIf (not (salesDue P w sales s)) 38 s
-    (stopIf (not (salesInStock P sales s)) 39 s
-    (stopIf (not (storageKept P (inventoryAfter P sales s))) 40 s
-    (continues (weekDone P w sales s))))
+    weekTested (salesDue P w sales s) (salesInStock P sales s) (storageKept P (inventoryAfter P sales s)) s (weekDone P w sales s)

@@ -12,8 +12,9 @@ ghost use Rattle.plant_file.specs.Plant.{plantOf};
 ghost use Rattle.plant_file.specs.Form.{plantForm};
 ghost use Rattle.slot_file.specs.Slots.{slotAt, slotsBefore, slotsOf};
 ghost use Rattle.slot_file.specs.Form.{slotForm};
-ghost use Rattle.machine.specs.Machine.{weekBegin, clockAfter, slotDone, slotStep, weekOutcome, weekEnd};
+ghost use Rattle.machine.specs.Machine.{weekBegin, clockAfter, slotDone, slotStep, weekTested, weekEnd};
 ghost use Rattle.machine.specs.State.{hasRun, updateRow, updateRows, andThen};
+ghost use Rattle.machine.specs.declared.State.{State};
 ghost use Rattle.machine.specs.declared.Outcome.the-variants.{Continues};
 ghost use Rattle.machine.specs.Row.{slotOf, slotsIn, Runnable};
 ghost use Rattle.machine.specs.Run.{opening, runSlots, runWeek, run};
@@ -210,7 +211,7 @@ fn slot_row(slots: &[u8], f: Shape, first: usize, count: usize) -> [Slot; 16]
 
 // The outcome of a week's end: the number of the first test that fails.
 fn week_outcome(due: bool, in_stock: bool, kept: bool) -> Outcome
-    ensures { λ r. ⌜ r ≡ weekOutcome due in_stock kept ⌝ }
+    ensures { λ r. ⌜ ((s t : State) → r ≡ weekTested due in_stock kept s t .outcome) ⌝ }
 {
     if !due {
         return Outcome::Stops(38);

@@ -5,20 +5,20 @@ use Rattle.machine.proofs.week_outcome.Statement.{statement}
 use Rattle.machine.proofs.week_outcome.Tie as tie
 
 returns : tie.Need-returns
-returns c = rw (not-true (c .before .args .due) (c .if1 .taken)) refl
+returns c s t = rw (not-true (c .before .args .due) (c .if1 .taken)) refl
 
 returns-2 : tie.Need-returns-2
-returns-2 c =
+returns-2 c s t =
     let a = c .before .before .args in
     rw (not-false (a .due) (c .before .if1 .left), not-true (a .in-stock) (c .if2 .taken)) refl
 
 returns-3 : tie.Need-returns-3
-returns-3 c =
+returns-3 c s t =
     let a = c .before .before .before .args in
     rw (not-false (a .due) (c .before .before .if1 .left), not-false (a .in-stock) (c .before .if2 .left), not-true (a .kept) (c .if3 .taken)) refl
 
 returns-4 : tie.Need-returns-4
-returns-4 c =
+returns-4 c s t =
     let a = c .before .before .before .args in
     rw (not-false (a .due) (c .before .before .if1 .left), not-false (a .in-stock) (c .before .if2 .left), not-false (a .kept) (c .if3 .left)) refl
 

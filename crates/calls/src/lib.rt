@@ -2,12 +2,12 @@
 ghost use mathlib.Core.Path.{_≡_};
 ghost use Rattle.calls.specs.declared.Written.the-variants.{Refused};
 ghost use Rattle.calls.specs.Check.{checkOf};
-use machine::Profit;
 use plan_file::plan_form;
 use plant_file::plant_form;
 use rules::Verdict;
 use rules::judge;
 use sections::Form;
+use units::Profit;
 
 // What checking says of a plan: its profit, or the number of its refusal.
 pub enum Check {

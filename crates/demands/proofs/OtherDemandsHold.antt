@@ -71,7 +71,6 @@ refusals-keep answer out =
 
 pub second-demand : (plant : List ℕ) (f : Shape) (plan : List ℕ) → Bytes plan → plantForm plant ≡ form.Good f → planForm f plan ≡ form.Good f
     → SecondDemand plant f plan
-unfolding plantOf
 second-demand plant f plan b accepted good =
     let R = plant-ranges plant f accepted in
     let rules = model-rules R (fits-binary (plan-fits f plan b good .line)) in

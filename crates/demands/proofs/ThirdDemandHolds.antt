@@ -29,7 +29,7 @@ use Rattle.slot_file.proofs.SlotReads as slot-reads
 use Rattle.slot_file.proofs.SlotsIsFile.{slots-is-file}
 use Rattle.slot_file.proofs.FileIsSlots as slot-file
 use Rattle.slot_file.proofs.SameSlotFiles as same-slots
-use Rattle.machine.specs.declared.Profit.{Profit}
+use Rattle.units.specs.declared.Profit.{Profit}
 use Rattle.machine.specs.declared.State.{State}
 use Rattle.machine.specs.State.{continues}
 use Rattle.machine.specs.Run.{run, after}
@@ -76,11 +76,9 @@ module _ (plant : List ℕ) (f : Shape) (accepted : plantForm plant ≡ Good f) 
 
   -- the plant's numbers have the shape of its file
   shape : shapeOfPlant P ≡ f
-  unfolding plantOf
   shape = refl
 
   small : (f .products < 256) × (f .customers < 256) × (f .weeks < 256)
-  unfolding plantOf
   small = (omega (arith, R .products-most), omega (arith, R .customers-most), omega (arith, R .weeks-most))
 
   -- ---- checking passes: the plan's rows and rules
@@ -101,7 +99,6 @@ module _ (plant : List ℕ) (f : Shape) (accepted : plantForm plant ≡ Good f) 
     S = slotsOf f slots
 
     formed : Formed P S
-    unfolding plantOf
     formed =
         let z = slot-reads.slots-fit f slots (g .bytes) (g .rows) in
         record {
@@ -115,7 +112,6 @@ module _ (plant : List ℕ) (f : Shape) (accepted : plantForm plant ≡ Good f) 
     own = record { formed = formed; runs = g .runs; same = same-plans.same-self (shapeOfPlant P) (runTables P S) }
 
     fits : PlanFits f (runTables P S)
-    unfolding plantOf
     fits = run-fits R own
 
     good : planForm f plan ≡ Good f
@@ -125,7 +121,6 @@ module _ (plant : List ℕ) (f : Shape) (accepted : plantForm plant ≡ Good f) 
     same = rw (g .gives) at (plan-file.file-plan f (runTables P S) small fits)
 
     given : Gives P S s X
-    unfolding plantOf
     given = record { formed = formed; runs = g .runs; same = same }
 
     passes : checkOf plant plan ≡ Passed (s .profit)
@@ -133,7 +128,6 @@ module _ (plant : List ℕ) (f : Shape) (accepted : plantForm plant ≡ Good f) 
 
     -- the slots that the plan shows are these, as a file
     shown : slotFile f (slotsShown P X) ≡ slots
-    unfolding plantOf
     shown = same-slots.same-file f (slotsShown P X) S (shown-slots R given) ∙ sym (slots-is-file f slots (g .bytes) (g .rows))
 
     slot-answer : slotAnswer plant plan ≡ bytes slots
@@ -153,18 +147,15 @@ module _ (plant : List ℕ) (f : Shape) (accepted : plantForm plant ≡ Good f) 
     file = slotFile f (slotsShown P X)
 
     runs : Gives P (slotsShown P X) (after P (slotsShown P X) (P .weeks)) X
-    unfolding plantOf
     runs = passing-runs R (fits-binary (plan-reads.plan-fits f plan b plan-good .line)) (passed-parts q e .1) .0
 
     slots-fit : SlotsFit f (slotsShown P X)
-    unfolding plantOf
     slots-fit = shown-fit R (fits-binary (plan-reads.plan-fits f plan b plan-good .line)) (passed-parts q e .1)
 
     back : SameSlots f (slotsOf f file) (slotsShown P X)
     back = slot-file.file-slots f (slotsShown P X) small slots-fit
 
     gives-file : GivesFile plant f file (after P (slotsShown P X) (P .weeks)) plan
-    unfolding plantOf
     gives-file =
         record {
           bytes = slot-file.file-bytes f (slotsShown P X);
@@ -176,7 +167,6 @@ module _ (plant : List ℕ) (f : Shape) (accepted : plantForm plant ≡ Good f) 
         }
 
   pub third-demand : ThirdDemand plant f plan
-  unfolding plantOf
   third-demand =
       record {
         passes-exactly = (

@@ -7,7 +7,7 @@ use mathlib.Core.List.{List}
 use Rattle.sections.specs.declared.Shape.{Shape}
 use Rattle.plant_file.specs.Plant.{plantOf}
 use Rattle.plan_file.specs.Plan.{planOf}
-use Rattle.machine.specs.declared.Profit.{Profit}
+use Rattle.units.specs.declared.Profit.{Profit}
 use Rattle.model.specs.Model.{Model, objective}
 use Rattle.calls.specs.declared.Check.the-variants.{Passed}
 use Rattle.calls.specs.Check.{checkOf}

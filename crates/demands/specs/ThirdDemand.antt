@@ -12,7 +12,7 @@ use Rattle.plant_file.specs.Plant.{plantOf}
 use Rattle.plan_file.specs.File.{planFile}
 use Rattle.slot_file.specs.Slots.{slotsOf}
 use Rattle.slot_file.specs.Form.{slotForm}
-use Rattle.machine.specs.declared.Profit.{Profit}
+use Rattle.units.specs.declared.Profit.{Profit}
 use Rattle.machine.specs.declared.State.{State}
 use Rattle.machine.specs.State.{continues}
 use Rattle.machine.specs.Run.{run}

@@ -1,5 +1,4 @@
 pub mod Digits
-pub mod Signed
 pub mod Plants
 pub mod Flat
 pub mod Stores

@@ -6,7 +6,6 @@ use native.Mathlib.Omega.{arith}
 use native.Mathlib.Nat.{mul-le-mul}
 use Rattle.sections.specs.declared.Shape.{Shape}
 use Rattle.sections.specs.declared.Form.the-variants.{Good}
-use Rattle.plant_file.specs.Plant.{plantOf}
 use Rattle.plant_file.specs.Form.{plantForm}
 use Rattle.plant_file.proofs.PlantInRange.{plant-ranges}
 use Rattle.machine.specs.declared.Mounted.{Mounted}
@@ -21,7 +20,6 @@ pub record Counts (f : Shape) : Type 0 where
   pub pairs : f .customers * f .products ≤ 128
 
 pub counts : (s : List ℕ) (f : Shape) → plantForm s ≡ Good f → Counts f
-unfolding plantOf
 counts s f good =
     let r = plant-ranges s f good in
     record { products = r .products-most; customers = r .customers-most; weeks = r .weeks-most; pairs = mul-le-mul (r .customers-most) (r .products-most) }

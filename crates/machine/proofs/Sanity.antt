@@ -32,7 +32,7 @@ use Rattle.machine.specs.Machine.{inventoryAfter, backlogAfter, storageK
 use Rattle.machine.specs.Run.{opening, runSlots, runWeek}
 use Rattle.machine.specs.Files.{revenueOf, backlogChargeOf, inventoryChargeOf}
 use Rattle.machine.specs.Bounds.{mountedBelow, Sane, Roomy}
-use Rattle.machine.proofs.Signed.{mag-sub, mag-add}
+use Rattle.units.proofs.Signed.{mag-sub, mag-add}
 use Rattle.machine.proofs.Plants.{counts}
 use Rattle.machine.proofs.Flat.{row-length, row-first, rows-length, rows-flat}
 use Rattle.machine.proofs.PairTables.{backlogAt, chargeAt, backlog-flat, charge-flat}
@@ -101,7 +101,7 @@ module _ (plant : List ℕ) (f : Shape) (good : plantForm plant ≡ Good f) wher
   pub slot-sane : {w k : ℕ} {s : State} (x : Slot) → x .product < f .products → Sane f w k s
       → clockAfter (plantOf f plant) x s ≤ plantOf f plant .weekMinutes → hasRun s (x .product) ≡ false
       → Sane f w (k + 1) (slotDone (plantOf f plant) x s)
-  unfolding plantOf clockAfter slotDone inventoryOf hasRun withInventory withWeek withProfit withMounted
+  unfolding clockAfter slotDone inventoryOf hasRun withInventory withWeek withProfit withMounted
   slot-sane {w} {k} {s} x p h l fresh =
       let line = plantOf f plant .line in
       let cents = cents-most (f .products) (line .changeoverCents) (ranges .line .cents-most) (s .mounted) (x .product) (h .mounted-below) p in
@@ -122,7 +122,7 @@ module _ (plant : List ℕ) (f : Shape) (good : plantForm plant ≡ Good f) wher
 
   module _ (sales : ℕ → ℕ → ℕ) where
     inventory-sane : {w k : ℕ} {s : State} → Sane f w k s → Sane f w k (inventoryAfter (plantOf f plant) sales s)
-    unfolding plantOf inventoryAfter withInventory inventoryOf
+    unfolding inventoryAfter withInventory inventoryOf
     inventory-sane {w} {k} {s} h =
         let g : ℕ → ℕ → ℕ = λ i before. before - soldOf (plantOf f plant) sales i in
         let room : f .products ≤ length (s .inventory) = omega (arith, h .inventory-long, ranges .products-most) in
@@ -138,7 +138,7 @@ module _ (plant : List ℕ) (f : Shape) (good : plantForm plant ≡ Good f) wher
         }
 
     backlog-sane : {w k : ℕ} {s : State} → w < f .weeks → Sane f w k s → Sane f (w + 1) k (backlogAfter (plantOf f plant) w sales s)
-    unfolding plantOf withBacklog inventoryOf
+    unfolding withBacklog inventoryOf
     backlog-sane {w} {k} {s} l h =
         let n = f .customers * f .products in
         let g = backlogAt (f .products) (plantOf f plant) w sales in
@@ -159,7 +159,6 @@ module _ (plant : List ℕ) (f : Shape) (good : plantForm plant ≡ Good f) wher
 
     module _ (small : (c i : ℕ) → c < f .customers → i < f .products → sales c i < 2 ^ 32) where
       revenue-most : revenueOf (plantOf f plant) sales ≤ 8 * (16 * (100000 * 4294967295))
-      unfolding plantOf
       revenue-most =
           let P = plantOf f plant in
           sum-few (f .customers) 8 (16 * (100000 * 4294967295)) (λ c. sumBelow (f .products) (λ i. P .price c i * sales c i)) (ranges .customers-most)
@@ -168,7 +167,6 @@ module _ (plant : List ℕ) (f : Shape) (good : plantForm plant ≡ Good f) wher
 
       module _ (w : ℕ) (s : State) (l : w < f .weeks) where
         backlog-charge-most : Sane f (w + 1) 16 s → backlogChargeOf (plantOf f plant) s ≤ 128 * (100000 * 2700000000)
-        unfolding plantOf
         backlog-charge-most h =
             rw (charge-flat (plantOf f plant) s)
             (sum-few (f .customers * f .products) 128 (100000 * 2700000000) (chargeAt (f .products) (plantOf f plant) s) (counts plant f good .pairs)
@@ -179,7 +177,6 @@ module _ (plant : List ℕ) (f : Shape) (good : plantForm plant ≡ Good f) wher
 
         inventory-charge-most : ((i : ℕ) → i < f .products → inventoryOf s i ≤ 4000000000)
             → inventoryChargeOf (plantOf f plant) s ≤ 16 * (100000 * 4000000000)
-        unfolding plantOf
         inventory-charge-most kept =
             sum-few (f .products) 16 (100000 * 4000000000) (λ i. plantOf f plant .inventoryCost i * inventoryOf s i) (ranges .products-most)
             (λ i q. mul-le-mul (ranges .inventory-cost-most i q) (kept i q))
@@ -209,7 +206,7 @@ module _ (plant : List ℕ) (f : Shape) (good : plantForm plant ≡ Good f) wher
       -- a week's end that does not stop
       pub week-sane : {w : ℕ} {s : State} → w < f .weeks → Sane f w 16 s
           → storageKept (plantOf f plant) (inventoryAfter (plantOf f plant) sales s) ≡ true → Sane f (w + 1) 0 (weekDone (plantOf f plant) w sales s)
-      unfolding plantOf weekDone backlogAfter inventoryAfter withBacklog withInventory inventoryOf
+      unfolding weekDone backlogAfter inventoryAfter withBacklog withInventory inventoryOf
       week-sane {w} {s} l h kept =
           let P = plantOf f plant in
           booked-sane w (backlogAfter P w sales (inventoryAfter P sales s)) l (backlog-sane l (inventory-sane h))
@@ -251,7 +248,7 @@ module _ (plant : List ℕ) (f : Shape) (good : plantForm plant ≡ Good f) wher
         rw (g .0) (week-sane sales (λ c i x y. fit .sales c i w x y l) l (week-slots-kept (ran .state) (went ran (a .0))) (g .1))
 
   pub opening-sane : Sane f 0 0 (opening (plantOf f plant))
-  unfolding plantOf opening inventoryOf
+  unfolding opening inventoryOf
   opening-sane =
       let P = plantOf f plant in
       let n = f .customers * f .products in

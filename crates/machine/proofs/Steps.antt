@@ -13,7 +13,7 @@ use Rattle.plant_file.specs.Plant.{Plant}
 use Rattle.slot_file.specs.Slots.{Slot}
 use Rattle.machine.specs.declared.BacklogUpdate.{BacklogUpdate}
 use Rattle.machine.specs.declared.InventoryUpdate.{InventoryUpdate}
-use Rattle.machine.specs.declared.Profit.{Profit}
+use Rattle.units.specs.declared.Profit.{Profit}
 use Rattle.machine.specs.declared.State.{State}
 use Rattle.machine.specs.declared.Step.{Step}
 use Rattle.machine.specs.declared.Outcome.{Outcome}
@@ -151,7 +151,7 @@ module _ (P : Plant) (w : ℕ) (sales : ℕ → ℕ → ℕ) (s : State) where
 
   -- the state after the week, by its two updates
   pub week-parts : (b : BacklogUpdate) (i : InventoryUpdate) (z : Profit) → BacklogUpdated P w sales s b → InventoryUpdated P sales s i
-      → z .0 ≡ s .profit .0 +ℤ pos (b .revenue) -ℤ pos (b .charge) -ℤ pos (i .charge)
+      → z .0 ≡ s .profit .0 +ℤ pos (b .revenue .0) -ℤ pos (b .charge .0) -ℤ pos (i .charge .0)
       → _≡_ {A = State}
       (record { inventory = i .inventory; clock = s .clock; backlog = b .backlog; profit = z; ran = s .ran; mounted = s .mounted })
       (weekDone P w sales s)

@@ -5,7 +5,7 @@ use lib.ListN.{length, getD}
 use lib.Signed.{mag}
 use Rattle.sections.specs.declared.Shape.{Shape}
 use Rattle.plant_file.specs.Plant.{LinePlant}
-use Rattle.machine.specs.declared.Changeover.{Changeover}
+use Rattle.units.specs.declared.Changeover.{Changeover}
 use Rattle.machine.specs.declared.Mounted.{Mounted}
 use Rattle.machine.specs.declared.Mounted.the-variants.{Nothing, Product}
 use Rattle.machine.specs.declared.State.{State}

@@ -39,14 +39,14 @@ pub record Readable (f : Shape) (plant slots : List ℕ) (w : ℕ) : Type 0 wher
 pub record BacklogUpdated (P : Plant) (w : ℕ) (sales : ℕ → ℕ → ℕ) (s : State) (r : BacklogUpdate) : Type 0 where
   pub backlog : r .backlog ≡ backlogAfter P w sales s .backlog
   pub due : r .due ≡ salesDue P w sales s
-  pub revenue : r .revenue ≡ revenueOf P sales
-  pub charge : r .charge ≡ backlogChargeOf P (backlogAfter P w sales s)
-  pub revenue-most : r .revenue ≤ 60000000000000000
-  pub charge-most : r .charge ≤ 60000000000000000
+  pub revenue : r .revenue .0 ≡ revenueOf P sales
+  pub charge : r .charge .0 ≡ backlogChargeOf P (backlogAfter P w sales s)
+  pub revenue-most : r .revenue .0 ≤ 60000000000000000
+  pub charge-most : r .charge .0 ≤ 60000000000000000
 
 pub record InventoryUpdated (P : Plant) (sales : ℕ → ℕ → ℕ) (s : State) (r : InventoryUpdate) : Type 0 where
   pub inventory : r .inventory ≡ inventoryAfter P sales s .inventory
   pub in-stock : r .in_stock ≡ salesInStock P sales s
   pub kept : r .kept ≡ storageKept P (inventoryAfter P sales s)
-  pub charge : r .charge ≡ inventoryChargeOf P (inventoryAfter P sales s)
-  pub charge-most : r .charge ≤ 60000000000000000
+  pub charge : r .charge .0 ≡ inventoryChargeOf P (inventoryAfter P sales s)
+  pub charge-most : r .charge .0 ≤ 60000000000000000

@@ -4,9 +4,7 @@ ghost use mathlib.Core.Path.{_≡_};
 ghost use mathlib.Core.Bool.{true};
 ghost use Prim.Native.Nat.{_+_, _*_, _-_, _^_, _≤_, _<_};
 ghost use Rattle.mathematics.specs.Below.{sumBelow, listBelow};
-ghost use lib.IntN.{pos, _+ℤ_, _-ℤ_};
 ghost use lib.ListN.{replicate, take};
-ghost use lib.Signed.{mag};
 ghost use Rattle.sections.specs.declared.Form.the-variants.{Good};
 ghost use Rattle.plant_file.specs.Plant.{plantOf};
 ghost use Rattle.plant_file.specs.Form.{plantForm};
@@ -43,18 +41,19 @@ use slot_file::sales;
 use slot_file::slot_count;
 use slot_file::slot_minutes;
 use slot_file::slot_product;
-
-// Time.
-pub struct Minutes(pub u64);
-
-// Mass.
-pub struct Grams(pub u64);
-
-// Money: unit costs and changeover costs.
-pub struct Cents(pub u64);
-
-// Money: profit, in thousandths of a cent.
-pub struct Profit(pub i64);
+use units::Cents;
+use units::Changeover;
+use units::Grams;
+use units::Minutes;
+use units::Profit;
+use units::Rate;
+use units::Thousandths;
+use units::UnitCost;
+use units::charge;
+use units::gain;
+use units::in_thousandths;
+use units::pay;
+use units::produced;
 
 // The product that the line is set up for.
 pub enum Mounted {
@@ -93,8 +92,8 @@ pub struct Step {
 pub struct BacklogUpdate {
     pub backlog: [u64; 128],
     pub due: bool,
-    pub revenue: u64,
-    pub charge: u64,
+    pub revenue: Thousandths,
+    pub charge: Thousandths,
 }
 
 // What the end of a week makes of the inventory: the new one, whether the sales are in stock, whether the new one is within its limits,
@@ -103,7 +102,7 @@ pub struct InventoryUpdate {
     pub inventory: [u64; 16],
     pub in_stock: bool,
     pub kept: bool,
-    pub charge: u64,
+    pub charge: Thousandths,
 }
 
 // A production run: a product and its minutes.
@@ -112,28 +111,14 @@ pub struct Slot {
     pub minutes: Minutes,
 }
 
-// What a changeover takes.
-pub struct Changeover {
-    pub minutes: Minutes,
-    pub cents: Cents,
-}
-
-// A number less another, or 0.
-fn less(a: u64, b: u64) -> u64
-    ensures { λ r. ⌜ r ≡ a - b ⌝ }
+// A mass less another, or 0.
+fn less(a: Grams, b: Grams) -> Grams
+    ensures { λ r. ⌜ r .0 ≡ a .0 - b .0 ⌝ }
 {
-    if a < b {
-        return 0;
+    if a.0 < b.0 {
+        return Grams(0);
     }
-    a - b
-}
-
-// The mass that a run makes: rate times minutes.
-pub fn produced(rate: u64, time: Minutes) -> Grams
-    requires { ⌜ (rate ≤ 100000) × (time .0 < 2 ^ 16) ⌝ }
-    ensures { λ r. ⌜ (r .0 ≡ rate * time .0) × (r .0 < 2 ^ 33) ⌝ }
-{
-    Grams(rate * time.0)
+    Grams(a.0 - b.0)
 }
 
 // The changeover from what is mounted to a product; from nothing there is none.
@@ -158,26 +143,10 @@ pub fn changeover_to(plant: &[u8], f: Shape, mounted: Mounted, product: usize) -
     }
 }
 
-// Profit plus an amount, in thousandths of a cent.
-pub fn gain(profit: Profit, amount: u64) -> Profit
-    requires { ⌜ mag (profit .0) + amount < 2 ^ 63 ⌝ }
-    ensures { λ r. ⌜ (r .0 ≡ profit .0 +ℤ pos amount) × (mag (r .0) ≤ mag (profit .0) + amount) ⌝ }
-{
-    Profit(profit.0 + (amount as i64))
-}
-
-// Profit less an amount, in thousandths of a cent.
-pub fn pay(profit: Profit, amount: u64) -> Profit
-    requires { ⌜ mag (profit .0) + amount < 2 ^ 63 ⌝ }
-    ensures { λ r. ⌜ (r .0 ≡ profit .0 -ℤ pos amount) × (mag (r .0) ≤ mag (profit .0) + amount) ⌝ }
-{
-    Profit(profit.0 - (amount as i64))
-}
-
 // A product's sales in a week, over the customers.
-pub fn sold_of(slots: &[u8], f: Shape, product: usize, week: usize) -> u64
+pub fn sold_of(slots: &[u8], f: Shape, product: usize, week: usize) -> Grams
     requires { ⌜ (slotForm f (now slots) ≡ Good f) × (product < f .products) × (week < f .weeks) ⌝ }
-    ensures { λ r. ⌜ r ≡ sumBelow (f .customers) (λ c. salesOf f (now (slots .entry)) week c product) ⌝ }
+    ensures { λ r. ⌜ r .0 ≡ sumBelow (f .customers) (λ c. salesOf f (now (slots .entry)) week c product) ⌝ }
 {
     let customers = count(f.customers);
     let mut sum = 0;
@@ -186,7 +155,7 @@ pub fn sold_of(slots: &[u8], f: Shape, product: usize, week: usize) -> u64
         sum += sales(slots, f, customer, product, week);
         customer += 1;
     }
-    sum
+    Grams(sum)
 }
 
 // Slots of the file at the start of an array: `count` of them, from slot `first` of all on.
@@ -266,12 +235,12 @@ impl State {
     {
         let mounted = self.mounted;
         let over = changeover_to(plant, f, mounted, product);
-        let grams = produced(rate(plant, f, product), time);
+        let grams = produced(Rate(rate(plant, f, product)), time);
         let mut inventory = self.inventory;
         inventory[product] = inventory[product] + grams.0;
         let ran = self.ran + (1u64 << product);
         let clock = self.clock_after(plant, f, product, time);
-        let profit = pay(self.profit, 1000 * over.cents.0);
+        let profit = pay(self.profit, in_thousandths(over.cents));
         State {
             inventory,
             clock,
@@ -349,23 +318,25 @@ impl State {
         let mut backlog = self.backlog;
         let mut due = true;
         let mut revenue = 0;
-        let mut charge = 0;
+        let mut cost = 0;
         let mut pair = 0;
         while pair < pairs {
-            let owed = backlog[pair] + pair_demand(plant, f, pair, week);
-            let sold = pair_sales(slots, f, pair, week);
-            due = and(due, sold <= owed);
+            let owed = Grams(backlog[pair] + pair_demand(plant, f, pair, week));
+            let sold = Grams(pair_sales(slots, f, pair, week));
+            due = and(due, sold.0 <= owed.0);
             let left = less(owed, sold);
-            backlog[pair] = left;
-            revenue += pair_price(plant, f, pair) * sold;
-            charge += pair_backlog_cost(plant, f, pair) * left;
+            backlog[pair] = left.0;
+            let bought = charge(UnitCost(pair_price(plant, f, pair)), sold);
+            let late = charge(UnitCost(pair_backlog_cost(plant, f, pair)), left);
+            revenue += bought.0;
+            cost += late.0;
             pair += 1;
         }
         BacklogUpdate {
             backlog,
             due,
-            revenue,
-            charge,
+            revenue: Thousandths(revenue),
+            charge: Thousandths(cost),
         }
     }
 
@@ -378,25 +349,26 @@ impl State {
         let mut inventory = self.inventory;
         let mut in_stock = true;
         let mut kept = true;
-        let mut charge = 0;
+        let mut cost = 0;
         let mut product = 0;
         while product < products {
             let sold = sold_of(slots, f, product, week);
-            let before = inventory[product];
-            in_stock = and(in_stock, sold <= before);
+            let before = Grams(inventory[product]);
+            in_stock = and(in_stock, sold.0 <= before.0);
             let left = less(before, sold);
             let least = least_storage(plant, f, product);
             let greatest = greatest_storage(plant, f, product);
-            kept = and(kept, inside(least, greatest, left));
-            inventory[product] = left;
-            charge += inventory_cost(plant, f, product) * left;
+            kept = and(kept, inside(least, greatest, left.0));
+            inventory[product] = left.0;
+            let held = charge(UnitCost(inventory_cost(plant, f, product)), left);
+            cost += held.0;
             product += 1;
         }
         InventoryUpdate {
             inventory,
             in_stock,
             kept,
-            charge,
+            charge: Thousandths(cost),
         }
     }
 

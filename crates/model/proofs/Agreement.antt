@@ -9,7 +9,7 @@ use Rattle.plant_file.specs.Plant.{Plant}
 use Rattle.plant_file.specs.Ranges.{PlantRanges}
 use Rattle.plan_file.specs.Plan.{Plan, LinePlanFits}
 use Rattle.slot_file.specs.Slots.{Slots, SameSlots}
-use Rattle.machine.specs.declared.Profit.{Profit}
+use Rattle.units.specs.declared.Profit.{Profit}
 use Rattle.machine.specs.declared.State.{State}
 use Rattle.machine.specs.Run.{after}
 use Rattle.rules.specs.declared.Verdict.the-variants.{Passed}

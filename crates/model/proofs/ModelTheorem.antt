@@ -17,7 +17,7 @@ use Rattle.mathematics.proofs.WeekRules.{WeekFacts, facts-meet}
 use Rattle.plant_file.specs.Plant.{Plant}
 use Rattle.plant_file.specs.Ranges.{PlantRanges}
 use Rattle.plan_file.specs.Plan.{Plan}
-use Rattle.machine.specs.declared.Profit.{Profit}
+use Rattle.units.specs.declared.Profit.{Profit}
 use Rattle.rules.specs.declared.Verdict.the-variants.{Passed}
 use Rattle.rules.specs.Rules.{weekOf, rule33, changeoverUnder, salesOf, changeoversOf, backlogOf, inventoryOf, profitOf}
 use Rattle.rules.specs.Verdict.{verdictOf}

@@ -11,12 +11,12 @@ use Rattle.mathematics.proofs.Below.{and-both, both-and, all-each, each-all, wi
 use Rattle.mathematics.proofs.Sums.{all-equal, equal-all}
 use Rattle.plant_file.specs.Plant.{Plant}
 use Rattle.plan_file.specs.Plan.{Plan}
-use Rattle.machine.specs.declared.Profit.{Profit}
+use Rattle.units.specs.declared.Profit.{Profit}
 use Rattle.rules.specs.declared.Verdict.{Verdict}
 use Rattle.rules.specs.declared.Verdict.the-variants.{Passed}
 use Rattle.rules.specs.Rules.{weekOf, rule33, rule35, rule36, rule37, rule38, rule39, rule40, rule41, changeoverUnder, backlogBefore, inventoryBefore}
 use Rattle.rules.specs.Rules.{profitOf}
-use Rattle.rules.specs.Verdict.{rule, verdictOf}
+use Rattle.rules.specs.Verdict.{rule, trials, tried, profitTried, verdictOf}
 use Rattle.model.specs.Model.{AmountModel, BetweenModel}
 use Rattle.model.proofs.Money.{same-equal, equal-same}
 use Rattle.model.proofs.Grids.{sumGrid, grid-ext, all-grid, grid-all}
@@ -48,7 +48,7 @@ pub record RulesHold (P : Plant) (x : Plan) : Type 0 where
 
 module _ (P : Plant) (x : Plan) where
   pub verdict-rules : (q : Profit) → verdictOf P x ≡ Passed q → RulesHold P x × (x .profit ≡ q .0)
-  unfolding verdictOf
+  unfolding verdictOf trials tried profitTried
   verdict-rules q e =
       let a = rule-passes 31 _ _ q e in
       let b = rule-passes 32 _ _ q (a .1) in
@@ -78,7 +78,7 @@ module _ (P : Plant) (x : Plan) where
       )
 
   pub rules-verdict : RulesHold P x → verdictOf P x ≡ Passed (record { 0 = x .profit })
-  unfolding verdictOf
+  unfolding verdictOf trials tried profitTried
   rules-verdict r =
       passes-rule 31 _ _ _ (each-all (P .weeks) _ (r .r31))
       (passes-rule 32 _ _ _ (each-all (P .weeks) _ (r .r32))

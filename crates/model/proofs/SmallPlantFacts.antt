@@ -13,7 +13,7 @@ use Rattle.rules.specs.declared.Verdict.the-variants.{Passed, Broken}
 use Rattle.rules.specs.Rules as rules
 use Rattle.rules.specs.Rules.{weekOf, rule33, rule35, rule36, rule37, rule38, rule39, rule40, rule41, changeoverUnder, backlogBefore, inventoryBefore}
 use Rattle.rules.specs.Rules.{salesOf, changeoversOf, profitOf}
-use Rattle.rules.specs.Verdict.{verdictOf}
+use Rattle.rules.specs.Verdict.{trials, tried, profitTried, verdictOf}
 use Rattle.model.specs.RunTables.{lineTables, runTables}
 use Rattle.model.specs.SmallPlant as small
 use Rattle.model.specs.SmallPlant.{judged, ran, factOf, smallPlant, threeProducts, ring, smallSlots, slotsOfB, smallCases}
@@ -36,6 +36,6 @@ small-plant-facts =
     unfold smallPlant threeProducts ring smallSlots slotsOfB small.withProfit smallCases lineTables runTables in
     unfold inventoryOf backlogOf hasRun withInventory withBacklog withWeek withProfit withMounted weekBegin clockAfter slotDone slotStep in
     unfold salesDue backlogAfter salesInStock inventoryAfter storageKept booked weekDone weekEnd opening runWeek run ranWeek in
-    unfold is markedOnce rule31 rule32 rule34 weekOf rule33 rule35 rule36 rule37 rule38 rule39 rule40 rule41 verdictOf in
+    unfold is markedOnce rule31 rule32 rule34 weekOf rule33 rule35 rule36 rule37 rule38 rule39 rule40 rule41 trials tried profitTried verdictOf in
     unfold changeoverUnder backlogBefore inventoryBefore salesOf changeoversOf rules.backlogOf rules.inventoryOf profitOf in
     refl

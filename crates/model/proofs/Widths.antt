@@ -13,7 +13,7 @@ use Rattle.plant_file.specs.Plant.{Plant}
 use Rattle.plant_file.specs.Ranges.{PlantRanges}
 use Rattle.plan_file.specs.Plan.{Plan, PlanFits}
 use Rattle.slot_file.specs.Slots.{Slot, Slots, SlotsFit}
-use Rattle.machine.specs.declared.Profit.{Profit}
+use Rattle.units.specs.declared.Profit.{Profit}
 use Rattle.machine.specs.declared.State.{State}
 use Rattle.rules.specs.declared.Verdict.the-variants.{Passed}
 use Rattle.rules.specs.Verdict.{verdictOf}

@@ -7,16 +7,16 @@ use native.Mathlib.Omega.{arith}
 use native.Mathlib.Nat.{zero-add}
 use Rattle.mathematics.proofs.Below.{and-both, both-and, each-all, at-within}
 use Rattle.mathematics.proofs.Join.{table-below}
-use Rattle.numbers.specs.Number.{Bytes}
+use Rattle.numbers.specs.Number.{Bytes, encode}
 use Rattle.numbers.proofs.Number.{number-below}
 use Rattle.numbers.proofs.TwosComplement.{signed-fits}
 use Rattle.contents.specs.Contents.{cell, offset, headed, placed, sized}
 use Rattle.contents.proofs.Facts.{Headed, headed-facts}
-use Rattle.sections.specs.Section.{inRange, Laid}
+use Rattle.sections.specs.Section.{inRange, Laid, cube}
 use Rattle.sections.specs.declared.Shape.{Shape}
 use Rattle.sections.specs.declared.Form.the-variants.{Good}
 use Rattle.sections.proofs.Rows.{row-good}
-use Rattle.sections.proofs.Tables.{range-first, cube-below}
+use Rattle.sections.proofs.Tables.{range-first, cube-below, cube-flat}
 use Rattle.plan_file.specs.Plan.{linePlanOf, planOf, PlanFits}
 use Rattle.plan_file.specs.Form.{planLengths, binary, planForm}
 
@@ -82,6 +82,12 @@ bit-below s i m h {j} l = omega (arith, range-first 1 s i m 0 1 h j l .1)
 pub bits-range : (s : List ℕ) (i m : ℕ) → ((j : ℕ) → j < m → cell 1 s i j < 2) → inRange 1 s i 0 m 0 1 ≡ true
 unfolding inRange
 bits-range s i m h = each-all m _ (λ j l. at-within 0 1 (cell 1 s i (0 + j)) (omega arith) (rw zero-add (omega (arith, h j l))))
+
+-- section 29 as a table
+pub sales-cube : (f : Shape) (s : List ℕ) → cube 4 (f .customers) (f .products) (f .weeks) (planOf f s .sales)
+    ≡ encode 4 (f .customers * f .products * f .weeks) (cell 4 s 8)
+unfolding planOf
+sales-cube f s = cube-flat 4 (f .customers) (f .products) (f .weeks) (cell 4 s 8)
 
 pub plan-fits : (f : Shape) (s : List ℕ) → Bytes s → planForm f s ≡ Good f → PlanFits f (planOf f s)
 unfolding planOf linePlanOf

@@ -1,3 +1,4 @@
 pub mod Plan
 pub mod Form
 pub mod File
+pub mod Tables

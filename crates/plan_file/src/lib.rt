@@ -1,20 +1,24 @@
 // Plan files, kind 2: the rows of refusal, the numbers of each section, and the writing of them.
 ghost use mathlib.Core.Path.{_≡_};
-ghost use Prim.Native.Nat.{_+_, _*_, _≤_, _<_, _^_};
+ghost use Prim.Native.Nat.{ℕ, _+_, _*_, _≤_, _<_, _^_};
 ghost use lib.ListN.{length, getD};
+ghost use Rattle.mathematics.specs.Below.{sumBelow};
 ghost use Rattle.numbers.specs.Number.{store, encode};
 ghost use Rattle.contents.specs.Contents.{sized};
 ghost use Rattle.contents.specs.File.{start, contentsBytes};
 ghost use Rattle.sections.specs.Section.{Laid};
 ghost use Rattle.sections.specs.declared.Form.the-variants.{Good};
 ghost use Rattle.plan_file.specs.Plan.{planOf};
+ghost use Rattle.plan_file.specs.Tables.{weeklyOf, passageOf};
 ghost use Rattle.plan_file.specs.Form.{planLengths, binary, planForm};
 use contents::cell_in;
 use contents::is_headed;
 use contents::is_placed;
 use contents::is_sized;
 use numbers::and;
+use numbers::count;
 use numbers::signed;
+use numbers::wide;
 use numbers::write_all;
 use sections::Form;
 use sections::Shape;
@@ -195,6 +199,122 @@ pub fn profit(s: &[u8], f: Shape) -> i64
     ensures { λ r. ⌜ r ≡ planOf f (now (s .entry)) .profit ⌝ }
 {
     signed(cell_in(s, 11, 8, 0))
+}
+
+// ---- sums over a week
+
+// The tables by week and product whose weeks are summed: E, F, L and T.
+pub enum Weekly {
+    Assigned,
+    First,
+    Last,
+    Minutes,
+}
+
+// The tables by week, product before and product after: Z, within the week, and ZF, from the week before.
+pub enum Passage {
+    Within,
+    Between,
+}
+
+fn week_number(s: &[u8], f: Shape, table: Weekly, week: usize, product: usize) -> u64
+    requires { ⌜ (planForm f (now s) ≡ Good f) × (week < f .weeks) × (product < f .products) ⌝ }
+    ensures { λ r. ⌜ (r ≡ weeklyOf table (planOf f (now (s .entry)) .line) week product) × (r < 2 ^ 16) ⌝ }
+{
+    match table {
+        Weekly::Assigned => assigned(s, f, week, product),
+        Weekly::First => first(s, f, week, product),
+        Weekly::Last => last(s, f, week, product),
+        Weekly::Minutes => minutes(s, f, week, product),
+    }
+}
+
+// The sum of a week's numbers.
+pub fn week_sum(s: &[u8], f: Shape, table: Weekly, week: usize) -> u64
+    requires { ⌜ (planForm f (now s) ≡ Good f) × (week < f .weeks) ⌝ }
+    ensures { λ r. ⌜ (r ≡ sumBelow (f .products) (weeklyOf table (planOf f (now (s .entry)) .line) week)) × (r < 2 ^ 24) ⌝ }
+{
+    let n = count(f.products);
+    let mut sum = 0;
+    let mut i = 0;
+    while i < n {
+        sum += week_number(s, f, table, week, i);
+        i += 1;
+    }
+    sum
+}
+
+fn passes(s: &[u8], f: Shape, table: Passage, week: usize, from: usize, to: usize) -> u64
+    requires { ⌜ (planForm f (now s) ≡ Good f) × (week < f .weeks) × (from < f .products) × (to < f .products) ⌝ }
+    ensures { λ r. ⌜ (r ≡ passageOf table (planOf f (now (s .entry)) .line) week from to) × (r < 2) ⌝ }
+{
+    match table {
+        Passage::Within => changeover(s, f, week, from, to),
+        Passage::Between => week_changeover(s, f, week, from, to),
+    }
+}
+
+// Adds the numbers out of one product to the sums into each.
+fn add_row(s: &[u8], f: Shape, table: Passage, week: usize, from: usize, into: &mut [u8; 16])
+    requires { ⌜ (planForm f (now s) ≡ Good f) × (week < f .weeks) × (from < f .products) × (f .products ≤ 16) × (length (now into) ≡ 16)
+        × ((j : ℕ) → j < f .products → getD (now into) j 0 ≤ from) ⌝ }
+    ensures { λ _. ⌜ (length (now (into .exit)) ≡ 16) × ((j : ℕ) → j < f .products
+        → getD (now (into .exit)) j 0 ≡ getD (now (into .entry)) j 0 + passageOf table (planOf f (now (s .entry)) .line) week from j)
+        × ((j : ℕ) → j < f .products → getD (now (into .exit)) j 0 ≤ from + 1) ⌝ }
+{
+    let n = count(f.products);
+    let mut to = 0;
+    while to < n {
+        let one = passes(s, f, table, week, from, to) as u8;
+        into[to] += one;
+        to += 1;
+    }
+}
+
+// The sums into each product: each counts products, of which there are at most 16.
+pub fn into_sums(s: &[u8], f: Shape, table: Passage, week: usize) -> [u8; 16]
+    requires { ⌜ (planForm f (now s) ≡ Good f) × (week < f .weeks) × (f .products ≤ 16) ⌝ }
+    ensures { λ r. ⌜ (length r ≡ 16) × ((j : ℕ) → j < f .products
+        → getD r j 0 ≡ sumBelow (f .products) (λ i. passageOf table (planOf f (now (s .entry)) .line) week i j)) ⌝ }
+{
+    let n = count(f.products);
+    let mut into = [0; 16];
+    let mut from = 0;
+    while from < n {
+        add_row(s, f, table, week, from, &mut into);
+        from += 1;
+    }
+    into
+}
+
+// The sum out of a product.
+pub fn out_sum(s: &[u8], f: Shape, table: Passage, week: usize, product: usize) -> u64
+    requires { ⌜ (planForm f (now s) ≡ Good f) × (week < f .weeks) × (product < f .products) ⌝ }
+    ensures { λ r. ⌜ (r ≡ sumBelow (f .products) (passageOf table (planOf f (now (s .entry)) .line) week product)) × (r < 256) ⌝ }
+{
+    let n = count(f.products);
+    let mut sum: u8 = 0;
+    let mut i = 0;
+    while i < n {
+        sum += passes(s, f, table, week, product, i) as u8;
+        i += 1;
+    }
+    wide(sum)
+}
+
+// The grams of a product sold in a week, over all customers.
+pub fn sold(s: &[u8], f: Shape, week: usize, product: usize) -> u64
+    requires { ⌜ (planForm f (now s) ≡ Good f) × (week < f .weeks) × (product < f .products) ⌝ }
+    ensures { λ r. ⌜ (r ≡ sumBelow (f .customers) (λ c. planOf f (now (s .entry)) .sales c product week)) × (r < 2 ^ 40) ⌝ }
+{
+    let customers = count(f.customers);
+    let mut sum = 0;
+    let mut customer = 0;
+    while customer < customers {
+        sum += sales(s, f, customer, product, week);
+        customer += 1;
+    }
+    sum
 }
 
 // Where the body in a place begins; place 12 is the file's end.

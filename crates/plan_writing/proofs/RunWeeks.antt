@@ -29,12 +29,10 @@ times-same e d = λ u. e u * d u
 
 -- a plant has products and weeks
 pub sides : (f : Shape) (plant : List ℕ) → plantForm plant ≡ Good f → (0 < f .products) × (0 < f .weeks)
-unfolding plantOf
 sides f plant good = let r = plant-ranges plant f good in (omega (arith, r .products-least), omega (arith, r .weeks-least))
 
 -- and not many products
 pub few-products : (f : Shape) (plant : List ℕ) → plantForm plant ≡ Good f → f .products ≤ 16
-unfolding plantOf
 few-products f plant good = plant-ranges plant f good .products-most
 
 -- product k of an order
@@ -46,7 +44,6 @@ order-at (x ∷ xs) (suc k) d l = order-at xs k d (omega arith)
 -- row 24, week by week
 pub formed : (f : Shape) (plant slots : List ℕ) → slotForm f slots ≡ Good f → (w : ℕ) → w < f .weeks
     → WeekFormed (plantOf f plant) (slotsOf f slots) w
-unfolding plantOf
 formed f plant slots e w l =
     let h = slot-good f f slots e in
     let xs = slotsOf f slots .line .week w in
@@ -82,7 +79,6 @@ module _ (f : Shape) (plant slots : List ℕ) (h : Ran f plant slots) where
   ranges = plant-ranges plant f (h .plant-good)
 
   goes-on : ((w : ℕ) → w < f .weeks → WeekClear P S w) × (after P S (f .weeks) ≡ run P S .state)
-  unfolding plantOf
   goes-on =
       let r = run P S in
       let e : r ≡ continues (r .state) = λ u. record { state = r .state; outcome = h .goes u } in
@@ -93,18 +89,16 @@ module _ (f : Shape) (plant slots : List ℕ) (h : Ran f plant slots) where
 
   -- the profit of the tables is the run's
   pub profit-is : run P S .state .profit .0 ≡ runTables P S .profit
-  unfolding plantOf runTables
+  unfolding runTables
   profit-is = sym (ap (λ (s : State). s .profit .0) (goes-on .1))
 
   module _ (i : ℕ) (k : i < f .products) where
     pub inventory-first : P .openingInventory i ≡ inventoryOf (after P S 0) i
-    unfolding plantOf
     inventory-first = sym (opening-inventory P ranges i k)
 
     pub inventory-next : (w : ℕ) → w < f .weeks
         → inventoryOf (after P S w) i + P .line .rate i * minutesOf (S .line .week w) i - sumBelow (f .customers) (λ c. S .sales c i w)
         ≡ inventoryOf (after P S (w + 1)) i
-    unfolding plantOf
     inventory-next w l =
         let n : suc w ≡ w + 1 = omega arith in
         sym (after-inventory P S ranges w (formed f plant slots (h .slots-good) w l) i k) ∙ ap (λ (v : ℕ). inventoryOf (after P S v) i) n
@@ -112,28 +106,23 @@ module _ (f : Shape) (plant slots : List ℕ) (h : Ran f plant slots) where
     -- no stop 39, no stop 40
     pub inventory-covers : (w : ℕ) → w < f .weeks
         → sumBelow (f .customers) (λ c. S .sales c i w) ≤ inventoryOf (after P S w) i + P .line .rate i * minutesOf (S .line .week w) i
-    unfolding plantOf
     inventory-covers w l =
         omega (arith, clear w l .ends .stocked i k, ran-inventory P S ranges w (formed f plant slots (h .slots-good) w l) i)
 
     pub inventory-limit : (w : ℕ) → w < f .weeks → inventoryOf (after P S w) i ≤ 4000000000
-    unfolding plantOf
     inventory-limit zero l = omega (arith, inventory-first, ranges .opening-inventory-most i k)
     inventory-limit (suc w) l = omega (arith, clear w (omega arith) .ends .most i k, ranges .storage-most i k)
 
     module _ (c : ℕ) (d : c < f .customers) where
       pub backlog-first : P .openingBacklog c i ≡ backlogOf (f .products) (after P S 0) c i
-      unfolding plantOf
       backlog-first = sym (opening-backlog P ranges c i d k)
 
       pub backlog-next : (w : ℕ) → w < f .weeks
           → backlogOf (f .products) (after P S w) c i + P .demand c i w - S .sales c i w ≡ backlogOf (f .products) (after P S (w + 1)) c i
-      unfolding plantOf
       backlog-next w l =
           let n : suc w ≡ w + 1 = omega arith in
           sym (after-backlog P S ranges w c i d k) ∙ ap (λ (v : ℕ). backlogOf (f .products) (after P S v) c i) n
 
       -- no stop 38
       pub backlog-covers : (w : ℕ) → w < f .weeks → S .sales c i w ≤ backlogOf (f .products) (after P S w) c i + P .demand c i w
-      unfolding plantOf
       backlog-covers w l = omega (arith, clear w l .ends .due c i d k, ran-backlog P S ranges w c i)

@@ -16,7 +16,7 @@ use Rattle.sections.specs.Section.{Laid, cube}
 use Rattle.sections.specs.declared.Shape.{Shape}
 use Rattle.sections.specs.declared.Form.the-variants.{Good}
 use Rattle.sections.proofs.Rows.{laid-extent}
-use Rattle.sections.proofs.Tables.{cube-flat}
+use Rattle.slot_file.proofs.SlotReads.{sales-cube}
 use Rattle.slot_file.specs.Slots.{slotsBefore, slotsOf}
 use Rattle.slot_file.specs.Form.{slotLengths, slotForm}
 use Rattle.slot_file.proofs.SlotPlaces.{sales-held}
@@ -42,9 +42,9 @@ module _ (f : Shape) (s : List ℕ) (good : slotForm f s ≡ Good f) where
 
   pub sales-bytes : Bytes s
       → cube 4 (f .customers) (f .products) (f .weeks) (slotsOf f s .sales) ≡ part s (offset s 2) (4 * (f .customers * f .products * f .weeks))
-  unfolding slotsOf cell
+  unfolding cell
   sales-bytes b =
-      cube-flat 4 (f .customers) (f .products) (f .weeks) (cell 4 s 2)
+      sales-cube f s
       ∙ encode-numbers 4 (f .customers * f .products * f .weeks) s (offset s 2) b sales-inside
 
 -- a part with one byte more

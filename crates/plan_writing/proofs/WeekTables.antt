@@ -14,7 +14,7 @@ use Rattle.sections.specs.declared.Shape.{Shape}
 use Rattle.sections.specs.declared.Form.the-variants.{Good}
 use Rattle.slot_file.specs.Slots.{slotCount, slotAt, slotsBefore, slotsOf}
 use Rattle.slot_file.specs.Form.{slotForm}
-use Rattle.slot_file.proofs.SlotReads.{slot-good, slot-below, slot-inside}
+use Rattle.slot_file.proofs.SlotReads.{slot-good, slot-below, slot-inside, week-list}
 use Rattle.model.specs.RunTables.{orderOfSlots, whoRan, whoFirst, whoLast, neighbours, placesFrom, minutesOf, lineTables, runTables}
 use Rattle.plant_file.specs.Plant.{plantOf}
 use Rattle.plan_writing.specs.Run.{WeekOf, passage}
@@ -54,9 +54,9 @@ abbrev pub made : (rate : ℕ → ℕ) (s : List ℕ) (w k j : ℕ) → ℕ
 made rate s w = stored (λ u. rate (slotIn s w u .product) * slotIn s w u .minutes) (λ u. slotIn s w u .product)
 
 pub made-all : (f : Shape) (rate : ℕ → ℕ) (s : List ℕ) (w j : ℕ) → made rate s w (slotCount s w) j ≡ rate j * minutesOf (slotsOf f s .line .week w) j
-unfolding slotsOf
 made-all f rate s w j =
-    made-sum (slotCount s w) (slotIn s w) rate j ∙ ap (λ (m : ℕ). rate j * m) (sym (minutes-sum (slotCount s w) (slotIn s w) j))
+    rw (week-list f s w)
+    (made-sum (slotCount s w) (slotIn s w) rate j ∙ ap (λ (m : ℕ). rate j * m) (sym (minutes-sum (slotCount s w) (slotIn s w) j)))
 
 -- ---- sums with a single term
 only-first : (n : ℕ) (g : ℕ → ℕ) → 0 < n → ((k : ℕ) → g (suc k) ≡ 0) → sumBelow n g ≡ g 0
@@ -104,23 +104,24 @@ module _ (f : Shape) (s : List ℕ) (w : ℕ) where
       (ap (λ (x : ℕ). is (x * previousIn s w k + slotIn s w k .product) j) e ∙ is-cell n (previousIn s w k) (slotIn s w k .product) j (h k l)))
 
   ran-is : (n j : ℕ) → marked s n w 0 j ≡ whoRan (orderOfSlots (slotsOf f s .line .week w)) j
-  unfolding strideIn markOf slotsOf
-  ran-is n j = flat n 0 j refl ∙ (sum-ext (slotCount s w) _ _ (λ k l. omega arith) ∙ sym (ran-sum (slotCount s w) (slotIn s w) j))
+  unfolding strideIn markOf
+  ran-is n j =
+      rw (week-list f s w)
+      (flat n 0 j refl ∙ (sum-ext (slotCount s w) _ _ (λ k l. omega arith) ∙ sym (ran-sum (slotCount s w) (slotIn s w) j)))
 
   places-is : (n j : ℕ) → marked s n w 5 j ≡ placesFrom 0 (orderOfSlots (slotsOf f s .line .week w)) j
-  unfolding strideIn markOf slotsOf
+  unfolding strideIn markOf
   places-is n j =
-      flat n 5 j refl
-      ∙ (sum-ext (slotCount s w) _ _ (λ k l. mul-comm (k + 1) (is (slotIn s w k .product) j)) ∙ sym (places-sum (slotCount s w) (slotIn s w) j))
+      rw (week-list f s w)
+      (flat n 5 j refl
+      ∙ (sum-ext (slotCount s w) _ _ (λ k l. mul-comm (k + 1) (is (slotIn s w k .product) j)) ∙ sym (places-sum (slotCount s w) (slotIn s w) j)))
 
   module _ (n : ℕ) (e : slotCount s w ≡ suc n) where
     week-first : (j : ℕ) → whoFirst (orderOfSlots (slotsOf f s .line .week w)) j ≡ is (slotIn s w 0 .product) j
-    unfolding slotsOf
-    week-first j = rw e (first-is n (slotIn s w) j)
+    week-first j = rw (week-list f s w, e) (first-is n (slotIn s w) j)
 
     week-last : (j : ℕ) → whoLast (orderOfSlots (slotsOf f s .line .week w)) j ≡ is (slotIn s w n .product) j
-    unfolding slotsOf
-    week-last j = rw e (last-is n (slotIn s w) j)
+    week-last j = rw (week-list f s w, e) (last-is n (slotIn s w) j)
 
     first-shown : (m j : ℕ) → marked s m w 1 j ≡ whoFirst (orderOfSlots (slotsOf f s .line .week w)) j
     unfolding strideIn markOf
@@ -141,10 +142,9 @@ module _ (f : Shape) (s : List ℕ) (w : ℕ) where
 
     neighbours-is : (i j : ℕ) → sumBelow (slotCount s w) (λ k. later k * (is (previousIn s w k) i * is (slotIn s w k .product) j))
         ≡ neighbours (orderOfSlots (slotsOf f s .line .week w)) i j
-    unfolding slotsOf
     neighbours-is i j =
         let place : (k : ℕ) → slotsBefore s w + suc k - 1 ≡ slotsBefore s w + k = λ k. omega arith in
-        rw e (sum-first n (λ k. later k * (is (previousIn s w k) i * is (slotIn s w k .product) j))
+        rw (week-list f s w, e) (sum-first n (λ k. later k * (is (previousIn s w k) i * is (slotIn s w k .product) j))
         ∙ (omega arith
         ∙ (sum-ext n (λ k. 1 * (is (previousIn s w (suc k)) i * is (slotIn s w (suc k) .product) j))
         (λ k. is (slotIn s w k .product) i * is (slotIn s w (suc k) .product) j)

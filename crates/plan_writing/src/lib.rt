@@ -26,7 +26,6 @@ ghost use Rattle.plan_writing.specs.Marks.{later, shownFrom, shownTo, st
 use calls::Written;
 use calls::refuse;
 use machine::Outcome;
-use machine::Profit;
 use machine::run;
 use machine::sold_of;
 use numbers::count;
@@ -48,6 +47,7 @@ use slot_file::slot_form;
 use slot_file::slot_minutes;
 use slot_file::slot_product;
 use slot_file::week_start;
+use units::Profit;
 
 // 1 where two numbers are equal, else 0.
 fn same(a: usize, b: usize) -> u64
@@ -321,7 +321,7 @@ fn write_inventory_row(out: &mut [u8], row: &mut [u64], slots: &[u8], f: Shape, 
     let products = count(f.products);
     let mut i = 0;
     while i < products {
-        let left = row[i] - sold_of(slots, f, i, week);
+        let left = row[i] - sold_of(slots, f, i, week).0;
         row[i] = left;
         write(out, 4 * i, 4, left);
         i += 1;

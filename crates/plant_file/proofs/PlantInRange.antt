@@ -14,7 +14,8 @@ use Rattle.sections.specs.Section.{inRange, diagonalZero}
 use Rattle.sections.specs.declared.Shape.{Shape}
 use Rattle.sections.specs.declared.Form.the-variants.{Good}
 use Rattle.sections.proofs.Tables.{range-at, range-first, cube-below}
-use Rattle.plant_file.specs.Plant.{lineOf, plantOf}
+use Rattle.plant_file.specs.Plant.{lineOf, plantOf, rateIn, changeoverMinutesIn, changeoverCentsIn, demandIn, priceIn, backlogCostIn}
+use Rattle.plant_file.specs.Plant.{inventoryCostIn, leastStorageIn, greatestStorageIn, openingInventoryIn, openingBacklogIn, shortestRunIn, weekMinutesIn}
 use Rattle.plant_file.specs.Form.{inLimits, lineInRange, marketInRange, storageInRange, openingInRange, timeInRange, plantInRange, plantForm}
 use Rattle.plant_file.specs.Ranges.{LineRanges, PlantRanges}
 use Rattle.plant_file.proofs.PlantReads.{plant-good}
@@ -24,7 +25,7 @@ unfolding diagonalZero
 diagonal-at k s i n h j l = eqb-true _ _ (all-each n (λ q. eqb (cell k s i (q * n + q)) 0) h j l)
 
 line-ranges : (s : List ℕ) (f : Shape) → lineInRange s f ≡ true → LineRanges (f .products) (lineOf f s)
-unfolding lineInRange lineOf
+unfolding lineInRange rateIn changeoverMinutesIn changeoverCentsIn
 line-ranges s f h =
     let n = f .products in
     let a = and-both (inRange 4 s 1 0 n 1 100000) _ h in
@@ -49,7 +50,7 @@ storage-at s n h i l =
     (leb-true _ _ (r .0), leb-true _ _ (r .1))
 
 pub plant-ranges : (s : List ℕ) (f : Shape) → plantForm s ≡ Good f → PlantRanges (plantOf f s)
-unfolding plantOf inLimits plantInRange marketInRange openingInRange timeInRange
+unfolding demandIn priceIn backlogCostIn inventoryCostIn leastStorageIn greatestStorageIn openingInventoryIn openingBacklogIn shortestRunIn weekMinutesIn inLimits plantInRange marketInRange openingInRange timeInRange
 plant-ranges s f good =
     let g = plant-good s f good in
     let n = f .products in

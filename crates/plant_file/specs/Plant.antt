@@ -35,31 +35,70 @@ pub record Plant : Type 0 where
   pub shortestRun : ℕ
   pub weekMinutes : ℕ
 
--- sections 2, 3 and 4: rate by product; changeover minutes, then cents, N by N, row from, column to
-unfoldable pub lineOf : Shape → List ℕ → LinePlant
-lineOf f s =
-    record {
-      rate = λ i. cell 4 s 1 i;
-      changeoverMinutes = λ i j. cell 2 s 2 (i * f .products + j);
-      changeoverCents = λ i j. cell 4 s 3 (i * f .products + j);
-    }
+-- ---- section k stands in place k - 1. What a section's number is stays shut above this crate; the records compute
 
--- section k stands in place k - 1
-unfoldable pub plantOf : Shape → List ℕ → Plant
+-- sections 2, 3 and 4: rate by product; changeover minutes, then cents, N by N, row from, column to
+unfoldable pub rateIn : List ℕ → ℕ → ℕ
+rateIn s i = cell 4 s 1 i
+
+unfoldable pub changeoverMinutesIn : Shape → List ℕ → ℕ → ℕ → ℕ
+changeoverMinutesIn f s i j = cell 2 s 2 (i * f .products + j)
+
+unfoldable pub changeoverCentsIn : Shape → List ℕ → ℕ → ℕ → ℕ
+changeoverCentsIn f s i j = cell 4 s 3 (i * f .products + j)
+
+-- sections 5 to 8
+unfoldable pub demandIn : Shape → List ℕ → ℕ → ℕ → ℕ → ℕ
+demandIn f s c i w = cell 4 s 4 ((c * f .products + i) * f .weeks + w)
+
+unfoldable pub priceIn : Shape → List ℕ → ℕ → ℕ → ℕ
+priceIn f s c i = cell 4 s 5 (c * f .products + i)
+
+unfoldable pub backlogCostIn : Shape → List ℕ → ℕ → ℕ → ℕ
+backlogCostIn f s c i = cell 4 s 6 (c * f .products + i)
+
+unfoldable pub inventoryCostIn : List ℕ → ℕ → ℕ
+inventoryCostIn s i = cell 4 s 7 i
+
+-- section 9: least and greatest, product by product
+unfoldable pub leastStorageIn : List ℕ → ℕ → ℕ
+leastStorageIn s i = cell 4 s 8 (2 * i)
+
+unfoldable pub greatestStorageIn : List ℕ → ℕ → ℕ
+greatestStorageIn s i = cell 4 s 8 (2 * i + 1)
+
+-- section 10: inventory, then backlog
+unfoldable pub openingInventoryIn : List ℕ → ℕ → ℕ
+openingInventoryIn s i = cell 4 s 9 i
+
+unfoldable pub openingBacklogIn : Shape → List ℕ → ℕ → ℕ → ℕ
+openingBacklogIn f s c i = cell 4 s 9 (f .products + (c * f .products + i))
+
+-- section 11
+unfoldable pub shortestRunIn : List ℕ → ℕ
+shortestRunIn s = cell 2 s 10 0
+
+unfoldable pub weekMinutesIn : List ℕ → ℕ
+weekMinutesIn s = cell 2 s 10 1
+
+abbrev pub lineOf : Shape → List ℕ → LinePlant
+lineOf f s = record { rate = rateIn s; changeoverMinutes = changeoverMinutesIn f s; changeoverCents = changeoverCentsIn f s }
+
+abbrev pub plantOf : Shape → List ℕ → Plant
 plantOf f s =
     record {
       products = f .products;
       customers = f .customers;
       weeks = f .weeks;
       line = lineOf f s;
-      demand = λ c i w. cell 4 s 4 ((c * f .products + i) * f .weeks + w);
-      price = λ c i. cell 4 s 5 (c * f .products + i);
-      backlogCost = λ c i. cell 4 s 6 (c * f .products + i);
-      inventoryCost = λ i. cell 4 s 7 i;
-      leastStorage = λ i. cell 4 s 8 (2 * i);
-      greatestStorage = λ i. cell 4 s 8 (2 * i + 1);
-      openingInventory = λ i. cell 4 s 9 i;
-      openingBacklog = λ c i. cell 4 s 9 (f .products + (c * f .products + i));
-      shortestRun = cell 2 s 10 0;
-      weekMinutes = cell 2 s 10 1;
+      demand = demandIn f s;
+      price = priceIn f s;
+      backlogCost = backlogCostIn f s;
+      inventoryCost = inventoryCostIn s;
+      leastStorage = leastStorageIn s;
+      greatestStorage = greatestStorageIn s;
+      openingInventory = openingInventoryIn s;
+      openingBacklog = openingBacklogIn f s;
+      shortestRun = shortestRunIn s;
+      weekMinutes = weekMinutesIn s;
     }

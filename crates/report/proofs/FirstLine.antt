@@ -5,7 +5,7 @@ use mathlib.Core.List.{List, [], _∷_, _++_, append-nil}
 use native.Mathlib.Omega.{arith}
 use lib.IntN.{ℤ, pos, negsuc}
 use lib.ListN.{length, length-append}
-use Rattle.machine.specs.declared.Profit.{Profit}
+use Rattle.units.specs.declared.Profit.{Profit}
 use Rattle.plant_file.specs.Form.{plantForm}
 use Rattle.calls.specs.Check.{checkOf}
 use Rattle.calls.specs.declared.Check.{Check}

@@ -23,7 +23,7 @@ use Rattle.plan_file.proofs.PlanReads.{plan-shape, plan-fits}
 use Rattle.slot_file.specs.Slots.{Slot, Slots}
 use Rattle.machine.specs.declared.Mounted.{Mounted}
 use Rattle.machine.specs.declared.Mounted.the-variants.{Nothing, Product}
-use Rattle.machine.specs.declared.Profit.{Profit}
+use Rattle.units.specs.declared.Profit.{Profit}
 use Rattle.machine.specs.State.{withWeek}
 use Rattle.machine.specs.Machine.{changeoverTo, weekBegin}
 use Rattle.machine.specs.Run.{opening, after}
@@ -105,15 +105,13 @@ module _ (f : Shape) (plant plan : List ℕ) (q : Profit) (bytes : Bytes plan) (
   slots = slotsShown (plantOf f plant) (planOf f plan)
 
   given : Gives (plantOf f plant) slots (after (plantOf f plant) slots (plantOf f plant .weeks)) (planOf f plan)
-  unfolding plantOf
   given = passing-runs (plant-ranges plant f plant-good) (fits-binary (plan-fits f plan bytes plan-good .line)) passes .0
 
   week-is : (w : ℕ) → slots .line .week w ≡ weekSlots f plan w
-  unfolding slotsShown weekSlots plantOf
+  unfolding slotsShown weekSlots
   week-is w = refl
 
   week-formed : (w : ℕ) → w < f .weeks → WeekFormed (plantOf f plant) slots w
-  unfolding plantOf
   week-formed = formed (plant-ranges plant f plant-good) given
 
   week-order : (w : ℕ) → orderOfSlots (slots .line .week w) ≡ listBelow (weekCount f plan w) (weekProduct f plan w)
@@ -146,11 +144,10 @@ module _ (f : Shape) (plant plan : List ℕ) (q : Profit) (bytes : Bytes plan) (
   week-text w l = rw (mounted w (omega arith), week-is w)
 
   passed-lines : joinBelow (f .weeks) (weekText f plant plan) ≡ weekLines (plantOf f plant) slots
-  unfolding weekLines plantOf
+  unfolding weekLines
   passed-lines = join-ext (f .weeks) _ _ week-text
 
   week-most : (w : ℕ) → w < f .weeks → length (weekText f plant plan w) ≤ 384
-  unfolding plantOf
   week-most w l =
       let R = plant-ranges plant f plant-good in
       rw (week-text w l) (week-lines-most (plantOf f plant) R slots w l (week-formed w l) (clear R given .0 w l))

@@ -25,7 +25,6 @@ use Rattle.report.specs.Report.{slotLines}
 use Rattle.report.specs.Shown.{mountedBefore, weekText}
 
 pub few : (s : List ℕ) (f : Shape) → plantForm s ≡ Good f → (f .products ≤ 16) × (f .weeks ≤ 26)
-unfolding plantOf
 few s f good = let r = plant-ranges s f good in (r .products-most, r .weeks-most)
 
 slots-drop : (minutes : ℕ → ℕ) (n : ℕ) (product : ℕ → ℕ) (k : ℕ) → k < n

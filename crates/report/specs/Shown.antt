@@ -8,7 +8,7 @@ use Rattle.plant_file.specs.Plant.{plantOf}
 use Rattle.plant_file.specs.Form.{plantForm}
 use Rattle.machine.specs.declared.Mounted.{Mounted}
 use Rattle.machine.specs.declared.Mounted.the-variants.{Nothing, Product}
-use Rattle.machine.specs.declared.Profit.{Profit}
+use Rattle.units.specs.declared.Profit.{Profit}
 use Rattle.calls.specs.declared.Check.the-variants.{Passed}
 use Rattle.calls.specs.Check.{checkOf}
 use Rattle.slot_return.specs.Shown.{weekCount, weekProduct, weekSlots, Ordered}

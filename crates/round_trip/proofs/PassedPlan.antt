@@ -9,7 +9,7 @@ use Rattle.numbers.specs.Number.{Bytes}
 use Rattle.sections.specs.declared.Form.{Form}
 use Rattle.sections.specs.declared.Form.the-variants as form
 use Rattle.plant_file.specs.Form.{plantForm}
-use Rattle.machine.specs.declared.Profit.{Profit}
+use Rattle.units.specs.declared.Profit.{Profit}
 use Rattle.calls.specs.declared.Check.the-variants.{Passed, Refused}
 use Rattle.calls.specs.declared.Written.the-variants as written
 use Rattle.calls.specs.Check.{checkOf}

@@ -6,9 +6,9 @@ ghost use Rattle.round_trip.specs.RoundTrip.{planAgain, roundTrip};
 use calls::Check;
 use calls::Written;
 use calls::check_plan;
-use machine::Profit;
 use plan_writing::plan_writing;
 use slot_return::slot_return;
+use units::Profit;
 
 // The plan file that came back: its length and its profit.
 pub struct Back {

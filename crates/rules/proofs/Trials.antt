@@ -1,34 +1,56 @@
 -- The verdict as the rules are tried, one after the other. Assumes nothing.
-use Prim.Native.Nat.{ℕ, suc, _+_, _-_, _<_}
-use mathlib.Core.Path.{_≡_, refl}
+use Prim.Native.Nat.{ℕ, zero, suc, _<_}
+use mathlib.Core.Path.{_≡_, refl, ap, _∙_}
 use mathlib.Core.Bool.{true, false}
+use mathlib.Core.List.{List, [], _∷_}
+use lib.ListN.{getD, drop}
 use native.Mathlib.Omega.{arith}
 use Rattle.mathematics.specs.Below.{allBelow}
 use Rattle.plant_file.specs.Plant.{Plant}
 use Rattle.plan_file.specs.Plan.{Plan}
 use Rattle.rules.specs.Rules.{rule41}
-use Rattle.rules.specs.Verdict.{verdictOf}
-use Rattle.rules.specs.Tried.{weekRule, tried}
+use Rattle.rules.specs.Verdict.{rule, trials, keepsOf, tried, profitTried, verdictOf}
+use Rattle.rules.specs.declared.Verdict.{Verdict}
 use Rattle.rules.specs.declared.Verdict.the-variants.{Passed, Broken}
 
+abbrev pub order : List ℕ
+order = 31 ∷ 32 ∷ 33 ∷ 34 ∷ 35 ∷ 36 ∷ 37 ∷ 38 ∷ 39 ∷ 40 ∷ []
+
+-- what is left to try after the first i rules
+unfoldable pub left : ℕ → Plant → Plan → Verdict
+left i P x = tried (P .weeks) (drop i (trials P x)) (profitTried P x)
+
 module _ (P : Plant) (x : Plan) where
-  -- the rules are 31 to 40 by their numbers, then 41
-  pub tried-all : tried 10 31 P x ≡ verdictOf P x
-  unfolding tried verdictOf weekRule
-  tried-all = refl
+  pub left-all : left 0 P x ≡ verdictOf P x
+  unfolding left verdictOf
+  left-all = refl
 
-  pub tried-broken : (n : ℕ) → n < 41 → allBelow (P .weeks) (weekRule n P x) ≡ false → tried (41 - n) n P x ≡ Broken n
-  unfolding tried
-  tried-broken n l h = let e : 41 - n ≡ suc (40 - n) = omega arith in rw (e, h)
+  -- each rule of the list is found by its number
+  turn : (i : ℕ) → i < 10 → left i P x ≡ rule (getD order i 0) (allBelow (P .weeks) (keepsOf (getD order i 0) (trials P x))) (left (suc i) P x)
+  unfolding left tried trials keepsOf
+  turn zero h = refl
+  turn (suc zero) h = refl
+  turn (suc (suc zero)) h = refl
+  turn (suc (suc (suc zero))) h = refl
+  turn (suc (suc (suc (suc zero)))) h = refl
+  turn (suc (suc (suc (suc (suc zero))))) h = refl
+  turn (suc (suc (suc (suc (suc (suc zero)))))) h = refl
+  turn (suc (suc (suc (suc (suc (suc (suc zero))))))) h = refl
+  turn (suc (suc (suc (suc (suc (suc (suc (suc zero)))))))) h = refl
+  turn (suc (suc (suc (suc (suc (suc (suc (suc (suc zero))))))))) h = refl
+  turn (suc (suc (suc (suc (suc (suc (suc (suc (suc (suc i)))))))))) h = absurd (omega arith)
 
-  pub tried-next : (n : ℕ) → n < 41 → allBelow (P .weeks) (weekRule n P x) ≡ true → tried (41 - n) n P x ≡ tried (41 - (n + 1)) (n + 1) P x
-  unfolding tried
-  tried-next n l h = let e : 41 - n ≡ suc (41 - (n + 1)) = omega arith in rw (e, h)
+  module _ (i : ℕ) (l : i < 10) where
+    pub left-broken : allBelow (P .weeks) (keepsOf (getD order i 0) (trials P x)) ≡ false → left i P x ≡ Broken (getD order i 0)
+    left-broken h = turn i l ∙ rw h
 
-  pub profit-broken : (n : ℕ) → n ≡ 41 → rule41 P x ≡ false → tried (41 - n) n P x ≡ Broken 41
-  unfolding tried
-  profit-broken n e h = rw (e, h)
+    pub left-next : allBelow (P .weeks) (keepsOf (getD order i 0) (trials P x)) ≡ true → left i P x ≡ left (suc i) P x
+    left-next h = turn i l ∙ rw h
 
-  pub all-kept : (n : ℕ) → n ≡ 41 → rule41 P x ≡ true → tried (41 - n) n P x ≡ Passed (record { 0 = x .profit })
-  unfolding tried
-  all-kept n e h = rw (e, h)
+  pub profit-broken : (i : ℕ) → i ≡ 10 → rule41 P x ≡ false → left i P x ≡ Broken 41
+  unfolding left tried trials profitTried
+  profit-broken i e h = rw (e, h)
+
+  pub all-kept : (i : ℕ) → i ≡ 10 → rule41 P x ≡ true → left i P x ≡ Passed (record { 0 = x .profit })
+  unfolding left tried trials profitTried
+  all-kept i e h = rw (e, h)

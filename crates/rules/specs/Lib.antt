@@ -1,4 +1,3 @@
 pub mod Rules
 pub mod Verdict
 pub mod Places
-pub mod Tried

@@ -22,12 +22,18 @@ rule33 N x (suc w) =
     && allBelow N (λ i. eqb (sumBelow N (λ j. x .weekChangeover (suc w) i j)) (x .last w i))
 
 -- 35: "shortest × E ≤ T ≤ week × E"
-unfoldable pub rule35 : Plant → LinePlan → ℕ → Bool
-rule35 P x w = allBelow (P .products) (λ i. within (P .shortestRun * x .assigned w i) (P .weekMinutes * x .assigned w i) (x .minutes w i))
+abbrev pub runAt : Plant → LinePlan → ℕ → ℕ → Bool
+runAt P x w i = within (P .shortestRun * x .assigned w i) (P .weekMinutes * x .assigned w i) (x .minutes w i)
 
--- "changeover minutes under Z and ZF", or cents
+unfoldable pub rule35 : Plant → LinePlan → ℕ → Bool
+rule35 P x w = allBelow (P .products) (runAt P x w)
+
+-- "changeover minutes under Z and ZF", or cents: from one product, and in all
+abbrev pub changeoverFrom : ℕ → (ℕ → ℕ → ℕ) → LinePlan → ℕ → ℕ → ℕ
+changeoverFrom N table x w i = sumBelow N (λ j. table i j * (x .changeover w i j + x .weekChangeover w i j))
+
 unfoldable pub changeoverUnder : ℕ → (ℕ → ℕ → ℕ) → LinePlan → ℕ → ℕ
-changeoverUnder N table x w = sumBelow N (λ i. sumBelow N (λ j. table i j * (x .changeover w i j + x .weekChangeover w i j)))
+changeoverUnder N table x w = sumBelow N (changeoverFrom N table x w)
 
 -- 36: "all T, plus changeover minutes under Z and ZF, are at most the week's minutes"
 unfoldable pub rule36 : Plant → LinePlan → ℕ → Bool
@@ -35,8 +41,11 @@ rule36 P x w =
     leb (sumBelow (P .products) (x .minutes w) + changeoverUnder (P .products) (P .line .changeoverMinutes) x w) (P .weekMinutes)
 
 -- 37: "P = r × T"
+abbrev pub productionAt : Plant → Plan → ℕ → ℕ → Bool
+productionAt P x w i = eqb (x .production w i) (P .line .rate i * x .line .minutes w i)
+
 unfoldable pub rule37 : Plant → Plan → ℕ → Bool
-rule37 P x w = allBelow (P .products) (λ i. eqb (x .production w i) (P .line .rate i * x .line .minutes w i))
+rule37 P x w = allBelow (P .products) (productionAt P x w)
 
 -- "Before week 0 stand section 10's numbers."
 unfoldable pub backlogBefore : Plant → Plan → ℕ → ℕ → ℕ → ℕ
@@ -48,28 +57,41 @@ inventoryBefore P x zero i = P .openingInventory i
 inventoryBefore P x (suc w) i = x .inventory w i
 
 -- 38: "Δ = Δ before + demand − S", as sums, since no number here is below 0
+abbrev pub backlogAt : Plant → Plan → (c i w : ℕ) → Bool
+backlogAt P x c i w = eqb (x .backlog c i w + x .sales c i w) (backlogBefore P x w c i + P .demand c i w)
+
 unfoldable pub rule38 : Plant → Plan → ℕ → Bool
-rule38 P x w =
-    allBelow (P .customers) (λ c. allBelow (P .products) (λ i. eqb (x .backlog c i w + x .sales c i w) (backlogBefore P x w c i + P .demand c i w)))
+rule38 P x w = allBelow (P .customers) (λ c. allBelow (P .products) (λ i. backlogAt P x c i w))
 
 -- 39: "V = V before + P − all S"
+abbrev pub inventoryAt : Plant → Plan → ℕ → ℕ → Bool
+inventoryAt P x w i = eqb (x .inventory w i + sumBelow (P .customers) (λ c. x .sales c i w)) (inventoryBefore P x w i + x .production w i)
+
 unfoldable pub rule39 : Plant → Plan → ℕ → Bool
-rule39 P x w =
-    allBelow (P .products) (λ i. eqb (x .inventory w i + sumBelow (P .customers) (λ c. x .sales c i w)) (inventoryBefore P x w i + x .production w i))
+rule39 P x w = allBelow (P .products) (inventoryAt P x w)
 
 -- 40: "V within storage"
+abbrev pub storageAt : Plant → Plan → ℕ → ℕ → Bool
+storageAt P x w i = within (P .leastStorage i) (P .greatestStorage i) (x .inventory w i)
+
 unfoldable pub rule40 : Plant → Plan → ℕ → Bool
-rule40 P x w = allBelow (P .products) (λ i. within (P .leastStorage i) (P .greatestStorage i) (x .inventory w i))
+rule40 P x w = allBelow (P .products) (storageAt P x w)
 
 -- 41, a week's money in thousandths of a cent: "price times S, 1000 times the cents under Z and ZF, unit costs times Δ and V"
+abbrev pub salesTo : Plant → Plan → ℕ → ℕ → ℕ
+salesTo P x w c = sumBelow (P .products) (λ i. P .price c i * x .sales c i w)
+
 unfoldable pub salesOf : Plant → Plan → ℕ → ℕ
-salesOf P x w = sumBelow (P .customers) (λ c. sumBelow (P .products) (λ i. P .price c i * x .sales c i w))
+salesOf P x w = sumBelow (P .customers) (salesTo P x w)
 
 unfoldable pub changeoversOf : Plant → Plan → ℕ → ℕ
 changeoversOf P x w = 1000 * changeoverUnder (P .products) (P .line .changeoverCents) (x .line) w
 
+abbrev pub backlogTo : Plant → Plan → ℕ → ℕ → ℕ
+backlogTo P x w c = sumBelow (P .products) (λ i. P .backlogCost c i * x .backlog c i w)
+
 unfoldable pub backlogOf : Plant → Plan → ℕ → ℕ
-backlogOf P x w = sumBelow (P .customers) (λ c. sumBelow (P .products) (λ i. P .backlogCost c i * x .backlog c i w))
+backlogOf P x w = sumBelow (P .customers) (backlogTo P x w)
 
 unfoldable pub inventoryOf : Plant → Plan → ℕ → ℕ
 inventoryOf P x w = sumBelow (P .products) (λ i. P .inventoryCost i * x .inventory w i)

@@ -2,45 +2,46 @@
 ghost use mathlib.Core.Path.{_≡_};
 ghost use Prim.Native.Nat.{_+_, _*_, _≤_, _<_, _^_};
 ghost use lib.Dec.{eqb, leb};
-ghost use lib.ListN.{getD};
 ghost use lib.IntN.{pos, _-ℤ_};
 ghost use Rattle.mathematics.specs.Below.{sumBelow, allBelow, implies, within};
-ghost use Rattle.numbers.specs.Number.{Width};
-ghost use Rattle.contents.specs.Contents.{cell};
 ghost use Rattle.sections.specs.declared.Form.the-variants.{Good};
 ghost use Rattle.plant_file.specs.Plant.{plantOf};
 ghost use Rattle.plant_file.specs.Form.{plantForm};
 ghost use Rattle.plan_file.specs.Plan.{planOf};
-ghost use Rattle.plan_file.specs.Form.{planForm, planLengths};
-ghost use Rattle.rules.specs.Rules.{changeoverUnder, backlogBefore, inventoryBefore, rule36};
-ghost use Rattle.rules.specs.Rules.{salesOf, changeoversOf, backlogOf, inventoryOf, sameInteger, rule41};
-ghost use Rattle.rules.specs.Places.{Judged, Prices, Table, oneMark, marksAt, sequenceAt, passageAt, positionAt, pairAt, inventoryAt};
-ghost use Rattle.rules.specs.Places.{ruleAt, placesOf, pairsOf, costsOf};
-ghost use Rattle.rules.specs.Tried.{weekRule};
-ghost use Rattle.rules.specs.Verdict.{verdictOf};
-use machine::Cents;
-use machine::Changeover;
-use machine::Grams;
-use machine::Minutes;
-use machine::Profit;
-use machine::produced;
+ghost use Rattle.plan_file.specs.Form.{planForm};
+ghost use Rattle.mathematics.specs.Week.{rule31, rule32, rule34};
+ghost use Rattle.rules.specs.Rules.{weekOf, rule33, rule35, rule36, rule37, rule38, rule39, rule40, rule41};
+ghost use Rattle.rules.specs.Rules.{runAt, productionAt, backlogAt, inventoryAt, storageAt, inventoryBefore};
+ghost use Rattle.rules.specs.Rules.{changeoverFrom, changeoverUnder, salesTo, backlogTo, salesOf, changeoversOf, backlogOf, inventoryOf, sameInteger};
+ghost use Rattle.rules.specs.Places.{Judged, oneMark, marksAt, sequenceAt, passageAt, positionAt, followsAt, costsOf};
+ghost use Rattle.rules.specs.Verdict.{trials, keepsOf, verdictOf};
 use numbers::and;
 use numbers::count;
 use numbers::inside;
+use numbers::wide;
+use plan_file::Passage;
+use plan_file::Weekly;
+use plan_file::into_sums;
+use plan_file::out_sum;
+use plan_file::week_sum;
 use sections::Shape;
-use sections::area;
-use sections::cost_cells;
-use sections::index3;
-use sections::sum_cells;
+use units::Cents;
+use units::Changeover;
+use units::Grams;
+use units::Minutes;
+use units::Profit;
+use units::Rate;
+use units::Thousandths;
+use units::UnitCost;
+use units::charge;
+use units::in_thousandths;
+use units::produced;
 
 // What the rules say of a plan: its profit, or the number of the first rule that it breaks.
 pub enum Verdict {
     Passed(Profit),
     Broken(u32),
 }
-
-// Money in thousandths of a cent, not below 0.
-pub struct Thousandths(pub u64);
 
 // ---- tests on amounts
 
@@ -82,57 +83,6 @@ fn balanced(after: Grams, left: Grams, before: Grams, come: Grams) -> bool
     same_mass(Grams(after.0 + left.0), Grams(before.0 + come.0))
 }
 
-// ---- sums over a plan's sections
-
-// The sum of a week's numbers, k bytes each, of a section by week and product.
-fn week_sum(plan: &[u8], f: Shape, place: usize, k: usize, week: usize) -> u64
-    requires { ⌜ (planForm f (now plan) ≡ Good f) × (week < f .weeks) × (place < 12) × Width k × (k ≤ 4)
-        × (getD (planLengths f) place 0 ≡ k * (f .weeks * f .products)) ⌝ }
-    ensures { λ r. ⌜ (r ≡ sumBelow (f .products) (λ i. cell k (now (plan .entry)) place (week * f .products + i))) × (r ≤ f .products * 256 ^ k) ⌝ }
-{
-    let n = count(f.products);
-    sum_cells(plan, place, k, week * n, 1, n)
-}
-
-// The sum into a product, in a section by week, product before and product after.
-fn into_sum(plan: &[u8], f: Shape, place: usize, week: usize, product: usize) -> u64
-    requires { ⌜ (planForm f (now plan) ≡ Good f) × (week < f .weeks) × (product < f .products) × (place < 12)
-        × (getD (planLengths f) place 0 ≡ 1 * (f .weeks * f .products * f .products)) ⌝ }
-    ensures { λ r. ⌜ (r ≡ sumBelow (f .products) (λ i. cell 1 (now (plan .entry)) place ((week * f .products + i) * f .products + product)))
-        × (r ≤ f .products * 256) ⌝ }
-{
-    let from = index3(week, f.weeks, 0, f.products, product, f.products);
-    let n = count(f.products);
-    sum_cells(plan, place, 1, from, n, n)
-}
-
-// The sum out of a product.
-fn out_sum(plan: &[u8], f: Shape, place: usize, week: usize, product: usize) -> u64
-    requires { ⌜ (planForm f (now plan) ≡ Good f) × (week < f .weeks) × (product < f .products) × (place < 12)
-        × (getD (planLengths f) place 0 ≡ 1 * (f .weeks * f .products * f .products)) ⌝ }
-    ensures { λ r. ⌜ (r ≡ sumBelow (f .products) (λ j. cell 1 (now (plan .entry)) place ((week * f .products + product) * f .products + j)))
-        × (r ≤ f .products * 256) ⌝ }
-{
-    let from = index3(week, f.weeks, product, f.products, 0, f.products);
-    sum_cells(plan, place, 1, from, 1, count(f.products))
-}
-
-// The mass of a product sold in a week, over all customers.
-fn sold(plan: &[u8], f: Shape, week: usize, product: usize) -> Grams
-    requires { ⌜ (planForm f (now plan) ≡ Good f) × (week < f .weeks) × (product < f .products) × (0 < f .customers) ⌝ }
-    ensures { λ r. ⌜ (r .0 ≡ sumBelow (f .customers) (λ c. planOf f (now (plan .entry)) .sales c product week)) × (r .0 < 2 ^ 40) ⌝ }
-{
-    let from = index3(0, f.customers, product, f.products, week, f.weeks);
-    Grams(sum_cells(
-        plan,
-        8,
-        4,
-        from,
-        area(f.products, f.weeks),
-        count(f.customers),
-    ))
-}
-
 // ---- rules 31 to 34 at a product
 
 // 31: one first and one last product.
@@ -141,8 +91,8 @@ fn one_mark(plan: &[u8], f: Shape, week: usize) -> bool
     ensures { λ r. ⌜ r ≡ oneMark (f .products) (planOf f (now (plan .entry)) .line) week ⌝ }
 {
     and(
-        week_sum(plan, f, 1, 1, week) == 1,
-        week_sum(plan, f, 2, 1, week) == 1,
+        week_sum(plan, f, Weekly::First, week) == 1,
+        week_sum(plan, f, Weekly::Last, week) == 1,
     )
 }
 
@@ -158,51 +108,98 @@ fn marks_at(plan: &[u8], f: Shape, week: usize, product: usize) -> bool
     )
 }
 
-// 32
-fn sequence_at(plan: &[u8], f: Shape, week: usize, product: usize) -> bool
+// 31 in a week.
+fn marks_in(plan: &[u8], f: Shape, week: usize) -> bool
+    requires { ⌜ (planForm f (now plan) ≡ Good f) × (week < f .weeks) ⌝ }
+    ensures { λ r. ⌜ r ≡ rule31 (f .products) (weekOf (planOf f (now (plan .entry)) .line) week) ⌝ }
+{
+    let n = count(f.products);
+    let one = one_mark(plan, f, week);
+    let mut ok = true;
+    let mut i = 0;
+    while i < n {
+        ok = and(ok, marks_at(plan, f, week, i));
+        i += 1;
+    }
+    and(one, ok)
+}
+
+// 32 at a product, with the sum into it.
+fn sequence_at(plan: &[u8], f: Shape, week: usize, product: usize, into: u8) -> bool
     requires { ⌜ (planForm f (now plan) ≡ Good f) × (week < f .weeks) × (product < f .products) ⌝ }
-    ensures { λ r. ⌜ r ≡ sequenceAt (f .products) (planOf f (now (plan .entry)) .line) week product ⌝ }
+    ensures { λ r. ⌜ r ≡ sequenceAt into (f .products) (planOf f (now (plan .entry)) .line) week product ⌝ }
 {
     let made = plan_file::assigned(plan, f, week, product);
     let diagonal = plan_file::changeover(plan, f, week, product, product);
-    let into = into_sum(plan, f, 3, week, product) + plan_file::first(plan, f, week, product);
-    let out = out_sum(plan, f, 3, week, product) + plan_file::last(plan, f, week, product);
+    let into = wide(into) + plan_file::first(plan, f, week, product);
+    let out = out_sum(plan, f, Passage::Within, week, product)
+        + plan_file::last(plan, f, week, product);
     and(and(diagonal == 0, into == made), out == made)
 }
 
-// 33
-fn passage_at(plan: &[u8], f: Shape, week: usize, product: usize) -> bool
-    requires { ⌜ (planForm f (now plan) ≡ Good f) × (week < f .weeks) × (product < f .products) ⌝ }
-    ensures { λ r. ⌜ r ≡ passageAt (f .products) (planOf f (now (plan .entry)) .line) week product ⌝ }
+// 32 in a week.
+fn sequence_in(plan: &[u8], f: Shape, week: usize) -> bool
+    requires { ⌜ (planForm f (now plan) ≡ Good f) × (week < f .weeks) × (f .products ≤ 16) ⌝ }
+    ensures { λ r. ⌜ r ≡ rule32 (f .products) (weekOf (planOf f (now (plan .entry)) .line) week) ⌝ }
 {
-    let out = out_sum(plan, f, 4, week, product);
+    let n = count(f.products);
+    let into = into_sums(plan, f, Passage::Within, week);
+    let mut ok = true;
+    let mut i = 0;
+    while i < n {
+        ok = and(ok, sequence_at(plan, f, week, i, into[i]));
+        i += 1;
+    }
+    ok
+}
+
+// 33 at a product, with the sum into it.
+fn passage_at(plan: &[u8], f: Shape, week: usize, product: usize, into: u8) -> bool
+    requires { ⌜ (planForm f (now plan) ≡ Good f) × (week < f .weeks) × (product < f .products) ⌝ }
+    ensures { λ r. ⌜ r ≡ passageAt into (f .products) (planOf f (now (plan .entry)) .line) week product ⌝ }
+{
+    let out = out_sum(plan, f, Passage::Between, week, product);
     if week == 0 {
         return out == 0;
     }
-    let into = into_sum(plan, f, 4, week, product);
     and(
-        into == plan_file::first(plan, f, week, product),
+        wide(into) == plan_file::first(plan, f, week, product),
         out == plan_file::last(plan, f, week - 1, product),
     )
 }
 
-// 34: the place of one product.
-fn position_at(plan: &[u8], f: Shape, week: usize, product: usize) -> bool
+// 33 in a week.
+fn passages_in(plan: &[u8], f: Shape, week: usize) -> bool
+    requires { ⌜ (planForm f (now plan) ≡ Good f) × (week < f .weeks) × (f .products ≤ 16) ⌝ }
+    ensures { λ r. ⌜ r ≡ rule33 (f .products) (planOf f (now (plan .entry)) .line) week ⌝ }
+{
+    let n = count(f.products);
+    let into = into_sums(plan, f, Passage::Between, week);
+    let mut ok = true;
+    let mut i = 0;
+    while i < n {
+        ok = and(ok, passage_at(plan, f, week, i, into[i]));
+        i += 1;
+    }
+    ok
+}
+
+// 34: the place of one product, in a week of this many.
+fn position_at(plan: &[u8], f: Shape, week: usize, product: usize, made: u64) -> bool
     requires { ⌜ (planForm f (now plan) ≡ Good f) × (week < f .weeks) × (product < f .products) ⌝ }
-    ensures { λ r. ⌜ r ≡ positionAt (f .products) (planOf f (now (plan .entry)) .line) week product ⌝ }
+    ensures { λ r. ⌜ r ≡ positionAt made (planOf f (now (plan .entry)) .line) week product ⌝ }
 {
     let position = plan_file::position(plan, f, week, product);
     if plan_file::assigned(plan, f, week, product) == 0 {
         return position == 0;
     }
-    inside(1, week_sum(plan, f, 0, 1, week), position)
+    inside(1, made, position)
 }
 
 // 34: a product that follows another has a later place.
 fn follows_at(plan: &[u8], f: Shape, week: usize, from: usize, to: usize) -> bool
     requires { ⌜ (planForm f (now plan) ≡ Good f) × (week < f .weeks) × (from < f .products) × (to < f .products) ⌝ }
-    ensures { λ r. ⌜ r ≡ implies (eqb (planOf f (now (plan .entry)) .line .changeover week from to) 1)
-        (leb (planOf f (now (plan .entry)) .line .position week from + 1) (planOf f (now (plan .entry)) .line .position week to)) ⌝ }
+    ensures { λ r. ⌜ r ≡ followsAt (planOf f (now (plan .entry)) .line) week from to ⌝ }
 {
     let follows = plan_file::changeover(plan, f, week, from, to) == 1;
     let before = plan_file::position(plan, f, week, from);
@@ -210,14 +207,44 @@ fn follows_at(plan: &[u8], f: Shape, week: usize, from: usize, to: usize) -> boo
     implied(follows, before + 1 <= after)
 }
 
+// 34: so have all that follow it.
+fn follows_from(plan: &[u8], f: Shape, week: usize, from: usize) -> bool
+    requires { ⌜ (planForm f (now plan) ≡ Good f) × (week < f .weeks) × (from < f .products) ⌝ }
+    ensures { λ r. ⌜ r ≡ allBelow (f .products) (followsAt (planOf f (now (plan .entry)) .line) week from) ⌝ }
+{
+    let n = count(f.products);
+    let mut ok = true;
+    let mut to = 0;
+    while to < n {
+        ok = and(ok, follows_at(plan, f, week, from, to));
+        to += 1;
+    }
+    ok
+}
+
+// 34 in a week.
+fn positions_in(plan: &[u8], f: Shape, week: usize) -> bool
+    requires { ⌜ (planForm f (now plan) ≡ Good f) × (week < f .weeks) ⌝ }
+    ensures { λ r. ⌜ r ≡ rule34 (f .products) (weekOf (planOf f (now (plan .entry)) .line) week) ⌝ }
+{
+    let n = count(f.products);
+    let made = week_sum(plan, f, Weekly::Assigned, week);
+    let mut ok = true;
+    let mut i = 0;
+    while i < n {
+        let placed = position_at(plan, f, week, i, made);
+        ok = and(ok, and(placed, follows_from(plan, f, week, i)));
+        i += 1;
+    }
+    ok
+}
+
 // ---- rules 35 to 37
 
 // 35
-fn minutes_at(plant: &[u8], plan: &[u8], f: Shape, week: usize, product: usize) -> bool
+fn run_at(plant: &[u8], plan: &[u8], f: Shape, week: usize, product: usize) -> bool
     requires { ⌜ Judged (now plant) (now plan) f week × (product < f .products) ⌝ }
-    ensures { λ r. ⌜ r ≡ within (plantOf f (now (plant .entry)) .shortestRun * planOf f (now (plan .entry)) .line .assigned week product)
-        (plantOf f (now (plant .entry)) .weekMinutes * planOf f (now (plan .entry)) .line .assigned week product)
-        (planOf f (now (plan .entry)) .line .minutes week product) ⌝ }
+    ensures { λ r. ⌜ r ≡ runAt (plantOf f (now (plant .entry))) (planOf f (now (plan .entry)) .line) week product ⌝ }
 {
     let made = plan_file::assigned(plan, f, week, product);
     let least = Minutes(plant_file::shortest_run(plant, f) * made);
@@ -226,26 +253,61 @@ fn minutes_at(plant: &[u8], plan: &[u8], f: Shape, week: usize, product: usize) 
     time_within(least, most, time)
 }
 
+// 35 in a week.
+fn runs_in(plant: &[u8], plan: &[u8], f: Shape, week: usize) -> bool
+    requires { ⌜ Judged (now plant) (now plan) f week ⌝ }
+    ensures { λ r. ⌜ r ≡ rule35 (plantOf f (now (plant .entry))) (planOf f (now (plan .entry)) .line) week ⌝ }
+{
+    let n = count(f.products);
+    let mut ok = true;
+    let mut i = 0;
+    while i < n {
+        ok = and(ok, run_at(plant, plan, f, week, i));
+        i += 1;
+    }
+    ok
+}
+
 // The minutes of a week's runs.
 fn running(plan: &[u8], f: Shape, week: usize) -> Minutes
     requires { ⌜ (planForm f (now plan) ≡ Good f) × (week < f .weeks) ⌝ }
     ensures { λ r. ⌜ (r .0 ≡ sumBelow (f .products) (planOf f (now (plan .entry)) .line .minutes week)) × (r .0 < 2 ^ 24) ⌝ }
 {
-    Minutes(week_sum(plan, f, 6, 2, week))
+    Minutes(week_sum(plan, f, Weekly::Minutes, week))
 }
 
-// The sum of a table's numbers under a week's changeovers, within it and from the week before.
-fn changeover_sum(plant: &[u8], plan: &[u8], f: Shape, place: usize, k: usize, week: usize) -> u64
-    requires { ⌜ Judged (now plant) (now plan) f week × Table (now plant) f place k ⌝ }
-    ensures { λ r. ⌜ (r ≡ changeoverUnder (f .products) (λ i j. cell k (now (plant .entry)) place (i * f .products + j))
-        (planOf f (now (plan .entry)) .line) week)
-        × (r < 2 ^ 40) ⌝ }
+// What changeovers take that happen at most twice.
+fn repeated(one: u64, times: u64) -> u64
+    requires { ⌜ (one ≤ 1000000) × (times ≤ 2) ⌝ }
+    ensures { λ r. ⌜ (r ≡ one * times) × (r ≤ 2000000) ⌝ }
 {
-    let nn = area(f.products, f.products);
-    let from = week * nn;
-    let inner = cost_cells(plant, place, k, plan, 3, 1, from, 1, nn);
-    let outer = cost_cells(plant, place, k, plan, 4, 1, from, 1, nn);
-    inner + outer
+    one * times
+}
+
+// What a week's changeovers from a product take, within the week and from the week before.
+fn changeovers_from(plant: &[u8], plan: &[u8], f: Shape, week: usize, from: usize) -> Changeover
+    requires { ⌜ Judged (now plant) (now plan) f week × (from < f .products) ⌝ }
+    ensures { λ r. ⌜ (r .minutes .0 ≡ changeoverFrom (f .products) (plantOf f (now (plant .entry)) .line .changeoverMinutes)
+        (planOf f (now (plan .entry)) .line) week from)
+        × (r .cents .0 ≡ changeoverFrom (f .products) (plantOf f (now (plant .entry)) .line .changeoverCents)
+        (planOf f (now (plan .entry)) .line) week from)
+        × (r .minutes .0 < 2 ^ 30) × (r .cents .0 < 2 ^ 30) ⌝ }
+{
+    let n = count(f.products);
+    let mut minutes = 0;
+    let mut cents = 0;
+    let mut to = 0;
+    while to < n {
+        let within = plan_file::changeover(plan, f, week, from, to);
+        let times = within + plan_file::week_changeover(plan, f, week, from, to);
+        minutes += repeated(plant_file::changeover_minutes(plant, f, from, to), times);
+        cents += repeated(plant_file::changeover_cents(plant, f, from, to), times);
+        to += 1;
+    }
+    Changeover {
+        minutes: Minutes(minutes),
+        cents: Cents(cents),
+    }
 }
 
 // What a week's changeovers take.
@@ -257,9 +319,20 @@ fn changeovers(plant: &[u8], plan: &[u8], f: Shape, week: usize) -> Changeover
         (planOf f (now (plan .entry)) .line) week)
         × (r .minutes .0 < 2 ^ 40) × (r .cents .0 < 2 ^ 40) ⌝ }
 {
-    let minutes = Minutes(changeover_sum(plant, plan, f, 2, 2, week));
-    let cents = Cents(changeover_sum(plant, plan, f, 3, 4, week));
-    Changeover { minutes, cents }
+    let n = count(f.products);
+    let mut minutes = 0;
+    let mut cents = 0;
+    let mut from = 0;
+    while from < n {
+        let row = changeovers_from(plant, plan, f, week, from);
+        minutes += row.minutes.0;
+        cents += row.cents.0;
+        from += 1;
+    }
+    Changeover {
+        minutes: Minutes(minutes),
+        cents: Cents(cents),
+    }
 }
 
 // 36
@@ -277,33 +350,32 @@ fn week_fits(plant: &[u8], plan: &[u8], f: Shape, week: usize) -> bool
 // 37
 fn production_at(plant: &[u8], plan: &[u8], f: Shape, week: usize, product: usize) -> bool
     requires { ⌜ Judged (now plant) (now plan) f week × (product < f .products) ⌝ }
-    ensures { λ r. ⌜ r ≡ eqb (planOf f (now (plan .entry)) .production week product)
-        (plantOf f (now (plant .entry)) .line .rate product * planOf f (now (plan .entry)) .line .minutes week product) ⌝ }
+    ensures { λ r. ⌜ r ≡ productionAt (plantOf f (now (plant .entry))) (planOf f (now (plan .entry))) week product ⌝ }
 {
     let time = Minutes(plan_file::minutes(plan, f, week, product));
     let mass = Grams(plan_file::production(plan, f, week, product));
-    same_mass(mass, produced(plant_file::rate(plant, f, product), time))
+    same_mass(
+        mass,
+        produced(Rate(plant_file::rate(plant, f, product)), time),
+    )
+}
+
+// 37 in a week.
+fn production_in(plant: &[u8], plan: &[u8], f: Shape, week: usize) -> bool
+    requires { ⌜ Judged (now plant) (now plan) f week ⌝ }
+    ensures { λ r. ⌜ r ≡ rule37 (plantOf f (now (plant .entry))) (planOf f (now (plan .entry))) week ⌝ }
+{
+    let n = count(f.products);
+    let mut ok = true;
+    let mut i = 0;
+    while i < n {
+        ok = and(ok, production_at(plant, plan, f, week, i));
+        i += 1;
+    }
+    ok
 }
 
 // ---- rules 38 to 40
-
-// The mass of a product owed to a customer before a week.
-fn backlog_before(
-    plant: &[u8],
-    plan: &[u8],
-    f: Shape,
-    week: usize,
-    customer: usize,
-    product: usize,
-) -> Grams
-    requires { ⌜ Judged (now plant) (now plan) f week × (customer < f .customers) × (product < f .products) ⌝ }
-    ensures { λ r. ⌜ (r .0 ≡ backlogBefore (plantOf f (now (plant .entry))) (planOf f (now (plan .entry))) week customer product) × (r .0 < 2 ^ 32) ⌝ }
-{
-    if week == 0 {
-        return Grams(plant_file::opening_backlog(plant, f, customer, product));
-    }
-    Grams(plan_file::backlog(plan, f, customer, product, week - 1))
-}
 
 // The mass of a product in stock before a week.
 fn inventory_before(plant: &[u8], plan: &[u8], f: Shape, week: usize, product: usize) -> Grams
@@ -316,25 +388,55 @@ fn inventory_before(plant: &[u8], plan: &[u8], f: Shape, week: usize, product: u
     Grams(plan_file::inventory(plan, f, week - 1, product))
 }
 
-// 38
-fn backlog_at(
-    plant: &[u8],
-    plan: &[u8],
-    f: Shape,
-    week: usize,
-    customer: usize,
-    product: usize,
-) -> bool
-    requires { ⌜ Judged (now plant) (now plan) f week × (customer < f .customers) × (product < f .products) ⌝ }
-    ensures { λ r. ⌜ r ≡ eqb (planOf f (now (plan .entry)) .backlog customer product week + planOf f (now (plan .entry)) .sales customer product week)
-        (backlogBefore (plantOf f (now (plant .entry))) (planOf f (now (plan .entry))) week customer product
-        + plantOf f (now (plant .entry)) .demand customer product week) ⌝ }
+// 38 of a customer and a product, in all weeks.
+fn backlog_over(plant: &[u8], plan: &[u8], f: Shape, customer: usize, product: usize) -> bool
+    requires { ⌜ (plantForm (now plant) ≡ Good f) × (planForm f (now plan) ≡ Good f) × (customer < f .customers) × (product < f .products) ⌝ }
+    ensures { λ r. ⌜ r ≡ allBelow (f .weeks) (backlogAt (plantOf f (now (plant .entry))) (planOf f (now (plan .entry))) customer product) ⌝ }
 {
-    let after = Grams(plan_file::backlog(plan, f, customer, product, week));
-    let sales = Grams(plan_file::sales(plan, f, customer, product, week));
-    let before = backlog_before(plant, plan, f, week, customer, product);
-    let demand = Grams(plant_file::demand(plant, f, customer, product, week));
-    balanced(after, sales, before, demand)
+    let weeks = count(f.weeks);
+    let mut before = plant_file::opening_backlog(plant, f, customer, product);
+    let mut ok = true;
+    let mut week = 0;
+    while week < weeks {
+        let after = plan_file::backlog(plan, f, customer, product, week);
+        let sales = plan_file::sales(plan, f, customer, product, week);
+        let demand = plant_file::demand(plant, f, customer, product, week);
+        let even = balanced(Grams(after), Grams(sales), Grams(before), Grams(demand));
+        ok = and(ok, even);
+        before = after;
+        week += 1;
+    }
+    ok
+}
+
+// 38 of a customer, in all weeks.
+fn backlog_with(plant: &[u8], plan: &[u8], f: Shape, customer: usize) -> bool
+    requires { ⌜ (plantForm (now plant) ≡ Good f) × (planForm f (now plan) ≡ Good f) × (customer < f .customers) ⌝ }
+    ensures { λ r. ⌜ r ≡ allBelow (f .products) (λ i. allBelow (f .weeks) (backlogAt (plantOf f (now (plant .entry))) (planOf f (now (plan .entry))) customer i)) ⌝ }
+{
+    let n = count(f.products);
+    let mut ok = true;
+    let mut i = 0;
+    while i < n {
+        ok = and(ok, backlog_over(plant, plan, f, customer, i));
+        i += 1;
+    }
+    ok
+}
+
+// 38 in all weeks: the files hold the weeks of a customer and a product side by side.
+fn backlog_kept(plant: &[u8], plan: &[u8], f: Shape) -> bool
+    requires { ⌜ (plantForm (now plant) ≡ Good f) × (planForm f (now plan) ≡ Good f) ⌝ }
+    ensures { λ r. ⌜ r ≡ allBelow (f .weeks) (rule38 (plantOf f (now (plant .entry))) (planOf f (now (plan .entry)))) ⌝ }
+{
+    let customers = count(f.customers);
+    let mut ok = true;
+    let mut customer = 0;
+    while customer < customers {
+        ok = and(ok, backlog_with(plant, plan, f, customer));
+        customer += 1;
+    }
+    ok
 }
 
 // 39
@@ -343,17 +445,31 @@ fn inventory_at(plant: &[u8], plan: &[u8], f: Shape, week: usize, product: usize
     ensures { λ r. ⌜ r ≡ inventoryAt (plantOf f (now (plant .entry))) (planOf f (now (plan .entry))) week product ⌝ }
 {
     let after = Grams(plan_file::inventory(plan, f, week, product));
-    let sales = sold(plan, f, week, product);
+    let sales = Grams(plan_file::sold(plan, f, week, product));
     let before = inventory_before(plant, plan, f, week, product);
     let made = Grams(plan_file::production(plan, f, week, product));
     balanced(after, sales, before, made)
 }
 
+// 39 in a week.
+fn inventory_in(plant: &[u8], plan: &[u8], f: Shape, week: usize) -> bool
+    requires { ⌜ Judged (now plant) (now plan) f week ⌝ }
+    ensures { λ r. ⌜ r ≡ rule39 (plantOf f (now (plant .entry))) (planOf f (now (plan .entry))) week ⌝ }
+{
+    let n = count(f.products);
+    let mut ok = true;
+    let mut i = 0;
+    while i < n {
+        ok = and(ok, inventory_at(plant, plan, f, week, i));
+        i += 1;
+    }
+    ok
+}
+
 // 40
 fn storage_at(plant: &[u8], plan: &[u8], f: Shape, week: usize, product: usize) -> bool
     requires { ⌜ Judged (now plant) (now plan) f week × (product < f .products) ⌝ }
-    ensures { λ r. ⌜ r ≡ within (plantOf f (now (plant .entry)) .leastStorage product) (plantOf f (now (plant .entry)) .greatestStorage product)
-        (planOf f (now (plan .entry)) .inventory week product) ⌝ }
+    ensures { λ r. ⌜ r ≡ storageAt (plantOf f (now (plant .entry))) (planOf f (now (plan .entry))) week product ⌝ }
 {
     let least = Grams(plant_file::least_storage(plant, f, product));
     let most = Grams(plant_file::greatest_storage(plant, f, product));
@@ -361,39 +477,82 @@ fn storage_at(plant: &[u8], plan: &[u8], f: Shape, week: usize, product: usize) 
     mass_within(least, most, mass)
 }
 
+// 40 in a week.
+fn storage_in(plant: &[u8], plan: &[u8], f: Shape, week: usize) -> bool
+    requires { ⌜ Judged (now plant) (now plan) f week ⌝ }
+    ensures { λ r. ⌜ r ≡ rule40 (plantOf f (now (plant .entry))) (planOf f (now (plan .entry))) week ⌝ }
+{
+    let n = count(f.products);
+    let mut ok = true;
+    let mut i = 0;
+    while i < n {
+        ok = and(ok, storage_at(plant, plan, f, week, i));
+        i += 1;
+    }
+    ok
+}
+
 // ---- rule 41
 
-// A week's amounts of a section, each times its cost, over customers and products.
-fn money(
-    plant: &[u8],
-    plan: &[u8],
-    f: Shape,
-    costs: usize,
-    amounts: usize,
-    week: usize,
-) -> Thousandths
-    requires { ⌜ Judged (now plant) (now plan) f week × Prices (now plant) f costs × (amounts < 12)
-        × (getD (planLengths f) amounts 0 ≡ 4 * (f .customers * f .products * f .weeks)) ⌝ }
-    ensures { λ r. ⌜ (r .0 ≡ sumBelow (f .customers) (λ c. sumBelow (f .products) (λ i.
-        cell 4 (now (plant .entry)) costs (c * f .products + i) * cell 4 (now (plan .entry)) amounts ((c * f .products + i) * f .weeks + week))))
-        × (r .0 < 2 ^ 56) ⌝ }
-{
-    let cn = area(f.customers, f.products);
-    Thousandths(cost_cells(plant, costs, 4, plan, amounts, 4, week, count(f.weeks), cn))
+// What is sold, and what its backlog costs.
+struct Market {
+    sales: Thousandths,
+    backlog: Thousandths,
 }
 
-fn sales_of(plant: &[u8], plan: &[u8], f: Shape, week: usize) -> Thousandths
-    requires { ⌜ Judged (now plant) (now plan) f week ⌝ }
-    ensures { λ r. ⌜ (r .0 ≡ salesOf (plantOf f (now (plant .entry))) (planOf f (now (plan .entry))) week) × (r .0 < 2 ^ 56) ⌝ }
+// A week's market with a customer.
+fn customer_market(plant: &[u8], plan: &[u8], f: Shape, week: usize, customer: usize) -> Market
+    requires { ⌜ Judged (now plant) (now plan) f week × (customer < f .customers) ⌝ }
+    ensures { λ r. ⌜ (r .sales .0 ≡ salesTo (plantOf f (now (plant .entry))) (planOf f (now (plan .entry))) week customer)
+        × (r .backlog .0 ≡ backlogTo (plantOf f (now (plant .entry))) (planOf f (now (plan .entry))) week customer)
+        × (r .sales .0 < 2 ^ 53) × (r .backlog .0 < 2 ^ 53) ⌝ }
 {
-    money(plant, plan, f, 5, 8, week)
+    let n = count(f.products);
+    let mut sales = 0;
+    let mut backlog = 0;
+    let mut product = 0;
+    while product < n {
+        let price = plant_file::price(plant, f, customer, product);
+        let bought = charge(
+            UnitCost(price),
+            Grams(plan_file::sales(plan, f, customer, product, week)),
+        );
+        let cost = plant_file::backlog_cost(plant, f, customer, product);
+        let owed = charge(
+            UnitCost(cost),
+            Grams(plan_file::backlog(plan, f, customer, product, week)),
+        );
+        sales += bought.0;
+        backlog += owed.0;
+        product += 1;
+    }
+    Market {
+        sales: Thousandths(sales),
+        backlog: Thousandths(backlog),
+    }
 }
 
-fn backlog_of(plant: &[u8], plan: &[u8], f: Shape, week: usize) -> Thousandths
+// A week's market.
+fn week_market(plant: &[u8], plan: &[u8], f: Shape, week: usize) -> Market
     requires { ⌜ Judged (now plant) (now plan) f week ⌝ }
-    ensures { λ r. ⌜ (r .0 ≡ backlogOf (plantOf f (now (plant .entry))) (planOf f (now (plan .entry))) week) × (r .0 < 2 ^ 56) ⌝ }
+    ensures { λ r. ⌜ (r .sales .0 ≡ salesOf (plantOf f (now (plant .entry))) (planOf f (now (plan .entry))) week)
+        × (r .backlog .0 ≡ backlogOf (plantOf f (now (plant .entry))) (planOf f (now (plan .entry))) week)
+        × (r .sales .0 ≤ 2 ^ 56) × (r .backlog .0 ≤ 2 ^ 56) ⌝ }
 {
-    money(plant, plan, f, 6, 10, week)
+    let customers = count(f.customers);
+    let mut sales = 0;
+    let mut backlog = 0;
+    let mut customer = 0;
+    while customer < customers {
+        let one = customer_market(plant, plan, f, week, customer);
+        sales += one.sales.0;
+        backlog += one.backlog.0;
+        customer += 1;
+    }
+    Market {
+        sales: Thousandths(sales),
+        backlog: Thousandths(backlog),
+    }
 }
 
 fn inventory_of(plant: &[u8], plan: &[u8], f: Shape, week: usize) -> Thousandths
@@ -401,7 +560,18 @@ fn inventory_of(plant: &[u8], plan: &[u8], f: Shape, week: usize) -> Thousandths
     ensures { λ r. ⌜ (r .0 ≡ inventoryOf (plantOf f (now (plant .entry))) (planOf f (now (plan .entry))) week) × (r .0 < 2 ^ 56) ⌝ }
 {
     let n = count(f.products);
-    Thousandths(cost_cells(plant, 7, 4, plan, 9, 4, week * n, 1, n))
+    let mut sum = 0;
+    let mut product = 0;
+    while product < n {
+        let cost = plant_file::inventory_cost(plant, f, product);
+        let held = charge(
+            UnitCost(cost),
+            Grams(plan_file::inventory(plan, f, week, product)),
+        );
+        sum += held.0;
+        product += 1;
+    }
+    Thousandths(sum)
 }
 
 fn changeovers_of(plant: &[u8], plan: &[u8], f: Shape, week: usize) -> Thousandths
@@ -409,18 +579,29 @@ fn changeovers_of(plant: &[u8], plan: &[u8], f: Shape, week: usize) -> Thousandt
     ensures { λ r. ⌜ (r .0 ≡ changeoversOf (plantOf f (now (plant .entry))) (planOf f (now (plan .entry))) week) × (r .0 < 2 ^ 56) ⌝ }
 {
     let over = changeovers(plant, plan, f, week);
-    Thousandths(1000 * over.cents.0)
+    in_thousandths(over.cents)
 }
 
-// What a week costs.
-fn costs_of(plant: &[u8], plan: &[u8], f: Shape, week: usize) -> Thousandths
+// What a week gains and loses.
+struct WeekMoney {
+    gained: Thousandths,
+    lost: Thousandths,
+}
+
+fn week_money(plant: &[u8], plan: &[u8], f: Shape, week: usize) -> WeekMoney
     requires { ⌜ Judged (now plant) (now plan) f week ⌝ }
-    ensures { λ r. ⌜ (r .0 ≡ costsOf (plantOf f (now (plant .entry))) (planOf f (now (plan .entry))) week) × (r .0 < 2 ^ 58) ⌝ }
+    ensures { λ r. ⌜ (r .gained .0 ≡ salesOf (plantOf f (now (plant .entry))) (planOf f (now (plan .entry))) week)
+        × (r .lost .0 ≡ costsOf (plantOf f (now (plant .entry))) (planOf f (now (plan .entry))) week)
+        × (r .gained .0 < 2 ^ 58) × (r .lost .0 < 2 ^ 58) ⌝ }
 {
     let changeover = changeovers_of(plant, plan, f, week);
-    let backlog = backlog_of(plant, plan, f, week);
+    let market = week_market(plant, plan, f, week);
     let inventory = inventory_of(plant, plan, f, week);
-    Thousandths(changeover.0 + backlog.0 + inventory.0)
+    let gained = market.sales;
+    WeekMoney {
+        gained,
+        lost: Thousandths(changeover.0 + market.backlog.0 + inventory.0),
+    }
 }
 
 // Whether the profit is what is gained less what is lost.
@@ -441,128 +622,39 @@ fn profit_holds(plant: &[u8], plan: &[u8], f: Shape) -> bool
     let mut lost = 0;
     let mut week = 0;
     while week < weeks {
-        let sales = sales_of(plant, plan, f, week);
-        let costs = costs_of(plant, plan, f, week);
-        gained += sales.0;
-        lost += costs.0;
+        let money = week_money(plant, plan, f, week);
+        gained += money.gained.0;
+        lost += money.lost.0;
         week += 1;
     }
     let profit = Profit(plan_file::profit(plan, f));
     is_profit(profit, Thousandths(gained), Thousandths(lost))
 }
 
-// ---- the rules by their numbers
+// ---- the verdict
 
-// Rules 34 and 38 at a pair: of products, or of a customer and a product.
-fn pair_at(
-    plant: &[u8],
-    plan: &[u8],
-    f: Shape,
-    n: u32,
-    week: usize,
-    a: usize,
-    product: usize,
-) -> bool
-    requires { ⌜ Judged (now plant) (now plan) f week × (a < pairsOf n f) × (product < f .products) ⌝ }
-    ensures { λ r. ⌜ r ≡ pairAt n (plantOf f (now (plant .entry))) (planOf f (now (plan .entry))) week a product ⌝ }
-{
-    if n == 34 {
-        return follows_at(plan, f, week, a, product);
-    }
-    backlog_at(plant, plan, f, week, a, product)
-}
-
-fn each_pair(plant: &[u8], plan: &[u8], f: Shape, n: u32, week: usize, a: usize) -> bool
-    requires { ⌜ Judged (now plant) (now plan) f week × (a < pairsOf n f) ⌝ }
-    ensures { λ r. ⌜ r ≡ allBelow (f .products) (pairAt n (plantOf f (now (plant .entry))) (planOf f (now (plan .entry))) week a) ⌝ }
-{
-    let products = count(f.products);
-    let mut ok = true;
-    let mut i = 0;
-    while i < products {
-        ok = and(ok, pair_at(plant, plan, f, n, week, a, i));
-        i += 1;
-    }
-    ok
-}
-
-// Rule n in a week, at one product or customer.
-fn rule_at(plant: &[u8], plan: &[u8], f: Shape, n: u32, week: usize, i: usize) -> bool
-    requires { ⌜ Judged (now plant) (now plan) f week × (i < placesOf n f) ⌝ }
-    ensures { λ r. ⌜ r ≡ ruleAt n (plantOf f (now (plant .entry))) (planOf f (now (plan .entry))) week i ⌝ }
-{
-    if n == 31 {
-        return marks_at(plan, f, week, i);
-    }
-    if n == 32 {
-        return sequence_at(plan, f, week, i);
-    }
-    if n == 33 {
-        return passage_at(plan, f, week, i);
-    }
-    if n == 34 {
-        return and(
-            position_at(plan, f, week, i),
-            each_pair(plant, plan, f, 34, week, i),
-        );
-    }
-    if n == 35 {
-        return minutes_at(plant, plan, f, week, i);
-    }
-    if n == 37 {
-        return production_at(plant, plan, f, week, i);
-    }
-    if n == 38 {
-        return each_pair(plant, plan, f, 38, week, i);
-    }
-    if n == 39 {
-        return inventory_at(plant, plan, f, week, i);
-    }
-    storage_at(plant, plan, f, week, i)
-}
-
-fn places(f: Shape, n: u32) -> usize
-    ensures { λ r. ⌜ (r ≡ placesOf n f) × (r < 256) ⌝ }
-{
-    if n == 38 {
-        return count(f.customers);
-    }
-    count(f.products)
-}
-
-fn each_place(plant: &[u8], plan: &[u8], f: Shape, n: u32, week: usize) -> bool
-    requires { ⌜ Judged (now plant) (now plan) f week ⌝ }
-    ensures { λ r. ⌜ r ≡ allBelow (placesOf n f) (ruleAt n (plantOf f (now (plant .entry))) (planOf f (now (plan .entry))) week) ⌝ }
-{
-    let m = places(f, n);
-    let mut ok = true;
-    let mut i = 0;
-    while i < m {
-        ok = and(ok, rule_at(plant, plan, f, n, week, i));
-        i += 1;
-    }
-    ok
-}
-
-// Rule n in a week.
+// Rule n in a week, but for 38; a number that no rule has is kept.
 fn rule_in(plant: &[u8], plan: &[u8], f: Shape, n: u32, week: usize) -> bool
-    requires { ⌜ Judged (now plant) (now plan) f week ⌝ }
-    ensures { λ r. ⌜ r ≡ weekRule n (plantOf f (now (plant .entry))) (planOf f (now (plan .entry))) week ⌝ }
+    requires { ⌜ Judged (now plant) (now plan) f week × (n ≡ 38 → ⊥) ⌝ }
+    ensures { λ r. ⌜ r ≡ keepsOf n (trials (plantOf f (now (plant .entry))) (planOf f (now (plan .entry)))) week ⌝ }
 {
-    if n == 36 {
-        return week_fits(plant, plan, f, week);
+    match n {
+        31 => marks_in(plan, f, week),
+        32 => sequence_in(plan, f, week),
+        33 => passages_in(plan, f, week),
+        34 => positions_in(plan, f, week),
+        35 => runs_in(plant, plan, f, week),
+        36 => week_fits(plant, plan, f, week),
+        37 => production_in(plant, plan, f, week),
+        39 => inventory_in(plant, plan, f, week),
+        40 => storage_in(plant, plan, f, week),
+        _ => true,
     }
-    let each = each_place(plant, plan, f, n, week);
-    if n == 31 {
-        return and(one_mark(plan, f, week), each);
-    }
-    each
 }
 
-// Rule n in all weeks.
 fn each_week(plant: &[u8], plan: &[u8], f: Shape, n: u32) -> bool
-    requires { ⌜ (plantForm (now plant) ≡ Good f) × (planForm f (now plan) ≡ Good f) ⌝ }
-    ensures { λ r. ⌜ r ≡ allBelow (f .weeks) (weekRule n (plantOf f (now (plant .entry))) (planOf f (now (plan .entry)))) ⌝ }
+    requires { ⌜ (plantForm (now plant) ≡ Good f) × (planForm f (now plan) ≡ Good f) × (n ≡ 38 → ⊥) ⌝ }
+    ensures { λ r. ⌜ r ≡ allBelow (f .weeks) (keepsOf n (trials (plantOf f (now (plant .entry))) (planOf f (now (plan .entry))))) ⌝ }
 {
     let weeks = count(f.weeks);
     let mut ok = true;
@@ -574,17 +666,30 @@ fn each_week(plant: &[u8], plan: &[u8], f: Shape, n: u32) -> bool
     ok
 }
 
+// Rule n in all weeks.
+fn kept(plant: &[u8], plan: &[u8], f: Shape, n: u32) -> bool
+    requires { ⌜ (plantForm (now plant) ≡ Good f) × (planForm f (now plan) ≡ Good f) ⌝ }
+    ensures { λ r. ⌜ r ≡ allBelow (f .weeks) (keepsOf n (trials (plantOf f (now (plant .entry))) (planOf f (now (plan .entry))))) ⌝ }
+{
+    if n == 38 {
+        return backlog_kept(plant, plan, f);
+    }
+    each_week(plant, plan, f, n)
+}
+
 // The first rule that a plan breaks, or its profit. Each rule is tried over all weeks before the next.
 pub fn judge(plant: &[u8], plan: &[u8], f: Shape) -> Verdict
     requires { ⌜ (plantForm (now plant) ≡ Good f) × (planForm f (now plan) ≡ Good f) ⌝ }
     ensures { λ r. ⌜ r ≡ verdictOf (plantOf f (now (plant .entry))) (planOf f (now (plan .entry))) ⌝ }
 {
-    let mut n = 31;
-    while n < 41 {
-        if !each_week(plant, plan, f, n) {
+    let order = [31, 32, 33, 34, 35, 36, 37, 38, 39, 40];
+    let mut i = 0;
+    while i < 10 {
+        let n = order[i];
+        if !kept(plant, plan, f, n) {
             return Verdict::Broken(n);
         }
-        n += 1;
+        i += 1;
     }
     if !profit_holds(plant, plan, f) {
         return Verdict::Broken(41);

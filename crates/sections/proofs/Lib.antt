@@ -2,4 +2,3 @@ pub mod Places
 pub mod Tables
 pub mod Rows
 pub mod Bodies
-pub mod Amounts

@@ -7,7 +7,7 @@ use lib.ListN.{length}
 use lib.Dec.{eqb}
 use Rattle.mathematics.specs.Below.{allBelow, joinBelow, within}
 use Rattle.numbers.specs.Number.{Width, encode}
-use Rattle.contents.specs.Contents.{offset, cell, placed, sized, Inside}
+use Rattle.contents.specs.Contents.{offset, cell, placed, sized}
 
 -- numbers from, .., from + m - 1 of section i, of k bytes each, are from lo to hi
 unfoldable pub inRange : (k : ℕ) → List ℕ → (i from m lo hi : ℕ) → Bool
@@ -39,14 +39,3 @@ pub record Laid (s lengths : List ℕ) : Type 0 where
   pub long : 2 + 9 * length lengths ≤ length s
   pub lies : placed s (length lengths) ≡ true
   pub lens : sized s lengths ≡ true
-
--- n numbers of k bytes of section i, from number `from` on and `step` places apart: they lie within the file, and their sum is small
-pub record Spaced (s : List ℕ) (i k from step n : ℕ) : Type 0 where
-  pub inside : (j : ℕ) → j < n → Inside s i k (from + step * j)
-  pub few : n ≤ 256
-  pub narrow : k ≤ 4
-
--- the first n numbers of section i, as what an amount costs
-pub record Costs (s : List ℕ) (i k n : ℕ) : Type 0 where
-  pub inside : (j : ℕ) → j < n → Inside s i k j
-  pub most : (j : ℕ) → j < n → cell k s i j ≤ 1000000

@@ -1,10 +1,7 @@
 // What the three kinds of file share: the answer of a file's rows, and tests on the numbers of a section.
 ghost use mathlib.Core.Path.{_≡_};
-ghost use Prim.Native.Nat.{_+_, _*_, _≤_, _<_, _^_};
-ghost use Rattle.mathematics.specs.Below.{sumBelow};
-ghost use Rattle.contents.specs.Contents.{cell};
-ghost use Rattle.sections.specs.Section.{inRange, diagonalZero, Holds, Spaced, Costs};
-use contents::cell_in;
+ghost use Prim.Native.Nat.{_+_, _*_, _≤_, _<_};
+ghost use Rattle.sections.specs.Section.{inRange, diagonalZero, Holds};
 use contents::entry_in;
 use numbers::and;
 use numbers::count;
@@ -85,42 +82,4 @@ pub fn diagonal_zero(s: &[u8], i: usize, k: usize, n: usize) -> bool
         j += 1;
     }
     ok
-}
-
-// The sum of n numbers of section i, of k bytes each: number `from`, and each next `step` places on.
-pub fn sum_cells(s: &[u8], i: usize, k: usize, from: usize, step: usize, n: usize) -> u64
-    requires { ⌜ Spaced (now s) i k from step n ⌝ }
-    ensures { λ r. ⌜ (r ≡ sumBelow n (λ j. cell k (now (s .entry)) i (from + step * j))) × (r ≤ n * 256 ^ k) ⌝ }
-{
-    let mut sum = 0;
-    let mut j = 0;
-    while j < n {
-        sum += cell_in(s, i, k, from + step * j);
-        j += 1;
-    }
-    sum
-}
-
-// The sum of n amounts of one file, section l, each times its cost in the other, section i, from the section's first number on.
-pub fn cost_cells(
-    costs: &[u8],
-    i: usize,
-    k: usize,
-    s: &[u8],
-    l: usize,
-    m: usize,
-    from: usize,
-    step: usize,
-    n: usize,
-) -> u64
-    requires { ⌜ Costs (now costs) i k n × Spaced (now s) l m from step n ⌝ }
-    ensures { λ r. ⌜ r ≡ sumBelow n (λ j. cell k (now (costs .entry)) i j * cell m (now (s .entry)) l (from + step * j)) ⌝ }
-{
-    let mut sum = 0;
-    let mut j = 0;
-    while j < n {
-        sum += cell_in(costs, i, k, j) * cell_in(s, l, m, from + step * j);
-        j += 1;
-    }
-    sum
 }

@@ -1,21 +1,22 @@
 -- What a slot file that passes its rows holds: the rows as facts, and the numbers of `slotsOf` within their ranges. Assumes nothing.
 use Prim.Native.Nat.{ℕ, _+_, _*_, _≤_, _<_, _^_}
-use mathlib.Core.Path.{_≡_}
+use mathlib.Core.Path.{_≡_, refl}
 use mathlib.Core.Bool.{true}
 use mathlib.Core.List.{List}
 use native.Mathlib.Omega.{arith}
 use lib.ListN.{length, getD}
 use lib.Dec.{ltb}
 use borrow.Author.Tests.{ltb-true}
+use Rattle.mathematics.specs.Below.{listBelow}
 use Rattle.mathematics.proofs.Below.{and-both, all-each}
-use Rattle.numbers.specs.Number.{Bytes}
+use Rattle.numbers.specs.Number.{Bytes, encode}
 use Rattle.numbers.proofs.Number.{number-below}
 use Rattle.contents.specs.Contents.{offset, cell, headed, placed, sized}
 use Rattle.contents.proofs.Facts.{Headed, headed-facts}
-use Rattle.sections.specs.Section.{inRange, Laid}
+use Rattle.sections.specs.Section.{inRange, Laid, cube}
 use Rattle.sections.specs.declared.Shape.{Shape}
 use Rattle.sections.specs.declared.Form.the-variants.{Good}
-use Rattle.sections.proofs.Tables.{range-first}
+use Rattle.sections.proofs.Tables.{range-first, cube-flat}
 use Rattle.sections.proofs.Rows.{row-good}
 use Rattle.slot_file.specs.Slots.{Slot, slotCount, slotAt, slotsBefore, slotsOf, SlotsFit}
 use Rattle.slot_file.specs.Form.{slotLengths, slotsInRange, slotForm}
@@ -66,6 +67,10 @@ pub slot-inside : (f : Shape) (s : List ℕ) → slotForm f s ≡ Good f → (j 
 slot-inside f s e j l = let z = slot-good f f s e .laid in (z .long, omega (arith, slots-held _ _ _ z))
 
 -- the slots of a week
+pub week-list : (f : Shape) (s : List ℕ) (w : ℕ) → slotsOf f s .line .week w ≡ listBelow (slotCount s w) (λ k. slotAt s (slotsBefore s w + k))
+unfolding slotsOf
+week-list f s w = refl
+
 pub week-length : (f : Shape) (s : List ℕ) (w : ℕ) → length (slotsOf f s .line .week w) ≡ slotCount s w
 unfolding slotsOf
 week-length f s w = list-length (slotCount s w) (λ k. slotAt s (slotsBefore s w + k))
@@ -79,6 +84,12 @@ week-slot f s w k d l = list-at (slotCount s w) (λ j. slotAt s (slotsBefore s w
 pub slot-below : (s : List ℕ) (n w k : ℕ) → w < n → k < slotCount s w → slotsBefore s w + k < slotsBefore s n
 unfolding slotsBefore
 slot-below s n w k l h = run-below n (slotCount s) w k l h
+
+-- section 43 as a table
+pub sales-cube : (f : Shape) (s : List ℕ) → cube 4 (f .customers) (f .products) (f .weeks) (slotsOf f s .sales)
+    ≡ encode 4 (f .customers * f .products * f .weeks) (cell 4 s 2)
+unfolding slotsOf
+sales-cube f s = cube-flat 4 (f .customers) (f .products) (f .weeks) (cell 4 s 2)
 
 -- the widths
 pub minutes-below : (s : List ℕ) → Bytes s → (j : ℕ) → slotAt s j .minutes < 2 ^ 16

@@ -10,7 +10,7 @@ use Rattle.plant_file.specs.Plant.{plantOf}
 use Rattle.plan_file.specs.Plan.{planOf}
 use Rattle.plan_file.specs.Form.{planForm}
 use Rattle.plan_file.proofs.PlanReads.{plan-fits}
-use Rattle.machine.specs.declared.Profit.{Profit}
+use Rattle.units.specs.declared.Profit.{Profit}
 use Rattle.rules.specs.declared.Verdict.the-variants.{Passed}
 use Rattle.rules.specs.Rules.{weekOf}
 use Rattle.rules.specs.Verdict.{verdictOf}
@@ -21,7 +21,7 @@ use Rattle.slot_return.specs.Shown.{weekCount, weekProduct, Ordered}
 
 pub passed-ordered : (f : Shape) (plant s : List ℕ) (q : Profit) → Bytes s → planForm f s ≡ Good f
     → verdictOf (plantOf f plant) (planOf f s) ≡ Passed q → Ordered f s
-unfolding weekCount weekProduct plantOf
+unfolding weekCount weekProduct
 passed-ordered f plant s q b h e =
     let x = planOf f s in
     let r = verdict-rules (plantOf f plant) x q e .0 in

@@ -21,7 +21,7 @@ use Rattle.contents.specs.File.{start, contentsBytes}
 use Rattle.contents.proofs.FileStored.{firstBodies, body-stored, all-stored}
 use Rattle.contents.proofs.FileWritten.{file-length as laid-length}
 use Rattle.sections.specs.declared.Shape.{Shape}
-use Rattle.sections.proofs.Tables.{cube-flat}
+use Rattle.plan_file.proofs.PlanReads.{sales-cube}
 use Rattle.plant_file.specs.Plant.{plantOf}
 use Rattle.plan_file.specs.Plan.{planOf}
 use Rattle.slot_file.specs.Form.{slotLengths}
@@ -95,8 +95,8 @@ module _ (f : Shape) (s : List ℕ) where
   counts-body = encode-ext 1 (f .weeks) _ _ (λ w l. sym (week-length w))
 
   pub sales-body : encode 4 (f .customers * f .products * f .weeks) (cell 4 s 8) ≡ bodyOf f s 2
-  unfolding slotBodies shownIn planOf
-  sales-body = sym (cube-flat 4 (f .customers) (f .products) (f .weeks) (cell 4 s 8))
+  unfolding slotBodies shownIn
+  sales-body = sym (sales-cube f s)
 
   pub lengths : map length (slotBodies f (shownIn f s)) ≡ slotLengths f (sumBelow (f .weeks) (weekCount f s))
   unfolding shownIn
@@ -105,7 +105,7 @@ module _ (f : Shape) (s : List ℕ) where
 
   -- they are those of `slotsShown`
   pub shown-is : (plant : List ℕ) → slotsShown (plantOf f plant) (planOf f s) ≡ shownIn f s
-  unfolding slotsShown shownIn weekSlots plantOf
+  unfolding slotsShown shownIn weekSlots
   shown-is plant = refl
 
   pub file-length : length (slotFile f (shownIn f s)) ≡ start (slotLengths f (sumBelow (f .weeks) (weekCount f s))) 3

@@ -1,12 +1,11 @@
 -- `machine::opening_state` meets its contract. Assumes nothing.
 use borrow.Author.Needs.{needs}
-use Rattle.plant_file.specs.Plant.{plantOf}
 use Rattle.machine.specs.Run.{opening}
 use Rattle.machine.proofs.opening_state.Statement.{statement}
 use Rattle.machine.proofs.opening_state.Tie as tie
 
 returns : tie.Need-returns
-unfolding opening plantOf
+unfolding opening
 returns c = rw (c .before .opening-row .ensures, c .opening-table .ensures)
 
 pub opening-state-spec : {M : Type 1} → statement M

@@ -31,7 +31,7 @@ abbrev μ-loop : tie.MeasureT-loop
 μ-loop plant slots f weeks r₀ first₀ week₀ r first week = f .weeks - week
 
 loop-holds : tie.Need-loop-holds Inv-loop μ-loop
-unfolding run plantOf slotsBefore
+unfolding run slotsBefore
 loop-holds c =
     let e = c .opening-state .ensures in
     (search needs, refl, search needs, λ _. rw e (opening-sane _ _ (c .before .before .before .before .pre .0)), rw (e, sub-zero))

@@ -65,7 +65,7 @@ module _ (s : tie.Start Inv-loop μ-loop) where
   -- one week more stored
   more : (out : List ℕ) (w v : ℕ) → out ≡ store (s .args .out .now) 0 (encode 4 w table) → v ≡ owed (w + 1)
       → store out (4 * w) (digits 4 v) ≡ store (s .args .out .now) 0 (encode 4 (w + 1) table)
-  unfolding runTables plantOf
+  unfolding runTables
   more out w v e d =
       let later : w + 1 ≡ suc w = omega arith in
       (λ u. store (e u) (4 * w) (digits 4 ((d ∙ ap owed later) u))) ∙ store-more 4 w table (s .args .out .now)

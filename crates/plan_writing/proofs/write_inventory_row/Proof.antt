@@ -36,13 +36,13 @@ module _ (c : tie.After-sold-of Inv-loop μ-loop) where
   number-is : getD (c .before .before .before .loop .row) i 0 ≡ getD (s .args .row .now) i 0
   number-is = c .before .before .before .loop .inv .5 i (omega arith)
 
-  left-is : getD (c .before .before .before .loop .row) i 0 - c .sold-of .result
+  left-is : getD (c .before .before .before .loop .row) i 0 - c .sold-of .result .0
       ≡ getD (s .args .row .now) i 0 - soldIn (s .args .f) (s .args .slots .now) (s .args .week) i
   left-is = λ u. number-is u - c .sold-of .ensures u
 
 loop-again : tie.Need-loop-again Inv-loop μ-loop
 loop-again q =
-    let c = q .before .before .before .before in
+    let c = q .before .before .before .before .before in
     let b = c .before .before .before .loop in
     let a = s c .args in
     let left : ℕ → ℕ = λ j. getD (a .row .now) j 0 - soldIn (a .f) (a .slots .now) (a .week) j in (
@@ -73,11 +73,11 @@ write-inventory-row-spec =
     (λ c. search needs)
     (λ c. search needs)
     (λ c κs. search needs)
-    (λ c. omega (arith, number-is c, c .sold-of .ensures, s c .pre .4 (i c) (below c)))
+    (λ c. let d = c .before in omega (arith, number-is d, d .sold-of .ensures, s d .pre .4 (i d) (below d)))
     (λ c. search needs)
     (λ c. search needs)
     (λ c. search needs)
-    (λ c κs. omega (arith, room 4 (below (c .before)), s (c .before) .pre .3, c .before .before .before .before .loop .inv .1))
+    (λ c κs. let d = c .before .before in omega (arith, room 4 (below d), s d .pre .3, d .before .before .before .loop .inv .1))
     (λ c. search needs)
     (λ c. search needs)
     loop-again

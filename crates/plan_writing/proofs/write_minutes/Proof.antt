@@ -10,7 +10,8 @@ use Rattle.numbers.specs.Number.{encode, store}
 use Rattle.numbers.proofs.Number.{encode-ext, room}
 use Rattle.mathematics.specs.Below.{is}
 use Rattle.mathematics.proofs.Below.{sum-ext}
-use Rattle.slot_file.specs.Slots.{slotCount, slotAt, slotsBefore, slotsOf}
+use Rattle.slot_file.specs.Slots.{slotCount, slotAt, slotsBefore}
+use Rattle.slot_file.proofs.SlotReads.{week-list}
 use Rattle.plan_writing.specs.Marks.{slotIn}
 use Rattle.plan_writing.proofs.Scatter.{zero-table, stored, slot-stored}
 use Rattle.plan_writing.proofs.WeekSums.{minutes-sum}
@@ -68,7 +69,6 @@ loop-again q =
     )
 
 returns : tie.Need-returns Inv-loop μ-loop
-unfolding slotsOf
 returns g =
     let s = g .before .before .before .before .before .before .before .before .before .before in
     let a = s .args in
@@ -79,12 +79,13 @@ returns g =
     let begun = g .before .before .before .before .before .clear .ensures
     ∙ ap (store (a .out .now) 0)
     (ap (λ (m : ℕ). replicate {A = ℕ} (2 * m) 0) (g .before .before .before .before .before .before .count .ensures .0) ∙ zero-table 2 n) in
-    b .inv .2 (a .out .now) begun
+    rw (week-list (a .f) (a .slots .now) (a .week))
+    (b .inv .2 (a .out .now) begun
     ∙ ap (store (a .out .now) 0)
     (encode-ext 2 n _ _
     (λ j l. ap (λ (x : ℕ). minutes (a .slots .now) (a .week) x j) all
     ∙ (sum-ext total _ _ (λ u m. mul-comm (slotIn (a .slots .now) (a .week) u .minutes) (is (slotIn (a .slots .now) (a .week) u .product) j))
-    ∙ sym (minutes-sum total (slotIn (a .slots .now) (a .week)) j))))
+    ∙ sym (minutes-sum total (slotIn (a .slots .now) (a .week)) j)))))
 
 pub write-minutes-spec : {M : Type 1} → statement M
 write-minutes-spec =

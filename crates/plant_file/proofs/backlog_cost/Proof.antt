@@ -5,12 +5,12 @@ use native.Mathlib.Omega.{arith}
 use Rattle.contents.specs.Contents.{cell}
 use Rattle.plant_file.proofs.PlantAccess.{held4, answer}
 use Rattle.plant_file.proofs.PlantInRange.{plant-ranges}
-use Rattle.plant_file.specs.Plant.{plantOf}
+use Rattle.plant_file.specs.Plant.{backlogCostIn}
 use Rattle.plant_file.proofs.backlog_cost.Statement.{statement}
 use Rattle.plant_file.proofs.backlog_cost.Tie as tie
 
 returns : tie.Need-returns
-unfolding plantOf
+unfolding backlogCostIn
 returns c =
     let p = c .before .before .before .pre in
     answer (c .cell-in .ensures ∙ ap (cell 4 _ 6) (c .before .index2 .ensures .0)) (plant-ranges _ _ (p .0) .backlog-cost-most _ _ (p .1) (p .2))

@@ -5,12 +5,12 @@ use native.Mathlib.Omega.{arith}
 use Rattle.contents.specs.Contents.{cell}
 use Rattle.plant_file.proofs.PlantAccess.{held2, answer}
 use Rattle.plant_file.proofs.PlantInRange.{plant-ranges}
-use Rattle.plant_file.specs.Plant.{lineOf, plantOf}
+use Rattle.plant_file.specs.Plant.{changeoverMinutesIn}
 use Rattle.plant_file.proofs.changeover_minutes.Statement.{statement}
 use Rattle.plant_file.proofs.changeover_minutes.Tie as tie
 
 returns : tie.Need-returns
-unfolding plantOf lineOf
+unfolding changeoverMinutesIn
 returns c =
     let p = c .before .before .before .pre in
     answer (c .cell-in .ensures ∙ ap (cell 2 _ 2) (c .before .index2 .ensures .0)) (plant-ranges _ _ (p .0) .line .minutes-most _ _ (p .1) (p .2))

@@ -4,12 +4,12 @@ use borrow.Author.Needs.{needs}
 use native.Mathlib.Omega.{arith}
 use Rattle.plant_file.proofs.PlantAccess.{held4, answer}
 use Rattle.plant_file.proofs.PlantInRange.{plant-ranges}
-use Rattle.plant_file.specs.Plant.{plantOf}
+use Rattle.plant_file.specs.Plant.{greatestStorageIn}
 use Rattle.plant_file.proofs.greatest_storage.Statement.{statement}
 use Rattle.plant_file.proofs.greatest_storage.Tie as tie
 
 returns : tie.Need-returns
-unfolding plantOf
+unfolding greatestStorageIn
 returns c =
     let p = c .before .before .pre in
     answer (c .cell-in .ensures) (plant-ranges _ _ (p .0) .storage-most _ (p .1))

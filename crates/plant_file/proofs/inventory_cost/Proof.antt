@@ -3,12 +3,12 @@ use borrow.Author.Needs.{needs}
 use native.Mathlib.Omega.{arith}
 use Rattle.plant_file.proofs.PlantAccess.{held4, answer}
 use Rattle.plant_file.proofs.PlantInRange.{plant-ranges}
-use Rattle.plant_file.specs.Plant.{plantOf}
+use Rattle.plant_file.specs.Plant.{inventoryCostIn}
 use Rattle.plant_file.proofs.inventory_cost.Statement.{statement}
 use Rattle.plant_file.proofs.inventory_cost.Tie as tie
 
 returns : tie.Need-returns
-unfolding plantOf
+unfolding inventoryCostIn
 returns c =
     let p = c .before .before .pre in
     answer (c .cell-in .ensures) (plant-ranges _ _ (p .0) .inventory-cost-most _ (p .1))

@@ -5,12 +5,12 @@ use native.Mathlib.Nat.{le-trans}
 use native.Mathlib.Omega.{arith}
 use Rattle.plant_file.proofs.PlantAccess.{held4, answer}
 use Rattle.plant_file.proofs.PlantInRange.{plant-ranges}
-use Rattle.plant_file.specs.Plant.{plantOf}
+use Rattle.plant_file.specs.Plant.{leastStorageIn}
 use Rattle.plant_file.proofs.least_storage.Statement.{statement}
 use Rattle.plant_file.proofs.least_storage.Tie as tie
 
 returns : tie.Need-returns
-unfolding plantOf
+unfolding leastStorageIn
 returns c =
     let p = c .before .before .pre in
     let x = plant-ranges _ _ (p .0) in

@@ -4,7 +4,7 @@ use mathlib.Core.Path.{_∙_}
 use native.Mathlib.Omega.{arith}
 use Prim.Native.Nat.{_+_, _*_}
 use Rattle.contents.specs.Contents.{cell}
-use Rattle.plant_file.specs.Plant.{plantOf}
+use Rattle.plant_file.specs.Plant.{openingBacklogIn}
 use Rattle.plant_file.proofs.PlantInRange.{plant-ranges}
 use Rattle.plant_file.proofs.PlantAccess.{held4, answer}
 use Rattle.plant_file.proofs.opening_backlog.Statement.{statement}
@@ -17,7 +17,7 @@ cell-in-requires c κs =
     held4 (s .pre .0) 9 (search needs) {m = f .products + f .customers * f .products} (omega arith) (omega arith)
 
 returns : tie.Need-returns
-unfolding plantOf
+unfolding openingBacklogIn
 returns c =
     let p = c .before .before .before .before .pre in
     answer (c .cell-in .ensures ∙ rw (c .before .count .ensures .0, c .before .before .index2 .ensures .0))

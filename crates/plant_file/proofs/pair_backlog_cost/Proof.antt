@@ -3,7 +3,7 @@ use mathlib.Core.Path.{sym, ap, _∙_}
 use borrow.Author.Needs.{needs}
 use native.Mathlib.Omega.{arith}
 use Rattle.contents.specs.Contents.{cell}
-use Rattle.plant_file.specs.Plant.{plantOf}
+use Rattle.plant_file.specs.Plant.{backlogCostIn}
 use Rattle.plant_file.proofs.Pairs.{pair-of}
 use Rattle.plant_file.proofs.PlantInRange.{plant-ranges}
 use Rattle.plant_file.proofs.PlantAccess.{held4, answer}
@@ -11,7 +11,7 @@ use Rattle.plant_file.proofs.pair_backlog_cost.Statement.{statement}
 use Rattle.plant_file.proofs.pair_backlog_cost.Tie as tie
 
 returns : tie.Need-returns
-unfolding plantOf
+unfolding backlogCostIn
 returns c =
     let p = pair-of _ _ _ (c .before .before .pre .1) in
     answer (c .cell-in .ensures ∙ ap (cell 4 _ 6) (sym (p .number))) (plant-ranges _ _ (c .before .before .pre .0) .backlog-cost-most _ _ (p .row) (p .column))

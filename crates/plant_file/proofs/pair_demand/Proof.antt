@@ -5,7 +5,7 @@ use borrow.Author.Needs.{needs}
 use native.Mathlib.Omega.{arith}
 use Rattle.mathematics.proofs.Join.{table-below}
 use Rattle.contents.specs.Contents.{Inside}
-use Rattle.plant_file.specs.Plant.{plantOf}
+use Rattle.plant_file.specs.Plant.{demandIn}
 use Rattle.plant_file.proofs.Pairs.{pair-of}
 use Rattle.plant_file.proofs.PlantInRange.{plant-ranges}
 use Rattle.plant_file.proofs.PlantAccess.{held4, answer}
@@ -18,7 +18,7 @@ inside c =
     rw (c .count .ensures .0) (held4 (s .pre .0) 4 (search needs) (omega arith) (table-below (s .pre .1) (s .pre .2)))
 
 returns : tie.Need-returns
-unfolding plantOf
+unfolding demandIn
 returns c =
     let p = pair-of _ _ _ (c .before .before .before .pre .1) in
     answer (c .cell-in .ensures ∙ rw (c .before .count .ensures .0, p .number))

@@ -4,7 +4,7 @@ use mathlib.Core.Path.{_∙_}
 use borrow.Author.Needs.{needs}
 use native.Mathlib.Omega.{arith}
 use Rattle.contents.specs.Contents.{Inside}
-use Rattle.plant_file.specs.Plant.{plantOf}
+use Rattle.plant_file.specs.Plant.{openingBacklogIn}
 use Rattle.plant_file.proofs.Pairs.{pair-of}
 use Rattle.plant_file.proofs.PlantInRange.{plant-ranges}
 use Rattle.plant_file.proofs.PlantAccess.{held4, answer}
@@ -17,7 +17,7 @@ inside c =
     held4 (c .before .before .pre .0) 9 (search needs) {m = f .products + f .customers * f .products} (omega arith) (omega arith)
 
 returns : tie.Need-returns
-unfolding plantOf
+unfolding openingBacklogIn
 returns c =
     let p = pair-of _ _ _ (c .before .before .before .pre .1) in
     answer (c .cell-in .ensures ∙ rw (c .before .count .ensures .0, p .number))

@@ -3,12 +3,12 @@ use borrow.Author.Needs.{needs}
 use native.Mathlib.Omega.{arith}
 use Rattle.plant_file.proofs.PlantAccess.{held4}
 use Rattle.plant_file.proofs.PlantInRange.{plant-ranges}
-use Rattle.plant_file.specs.Plant.{lineOf, plantOf}
+use Rattle.plant_file.specs.Plant.{rateIn}
 use Rattle.plant_file.proofs.rate.Statement.{statement}
 use Rattle.plant_file.proofs.rate.Tie as tie
 
 returns : tie.Need-returns
-unfolding plantOf lineOf
+unfolding rateIn
 returns c =
     let p = c .before .before .pre in
     let x = plant-ranges _ _ (p .0) .line in

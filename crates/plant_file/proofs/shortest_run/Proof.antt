@@ -4,12 +4,12 @@ use native.Mathlib.Nat.{le-trans}
 use native.Mathlib.Omega.{arith}
 use Rattle.plant_file.proofs.PlantAccess.{held2}
 use Rattle.plant_file.proofs.PlantInRange.{plant-ranges}
-use Rattle.plant_file.specs.Plant.{plantOf}
+use Rattle.plant_file.specs.Plant.{shortestRunIn}
 use Rattle.plant_file.proofs.shortest_run.Statement.{statement}
 use Rattle.plant_file.proofs.shortest_run.Tie as tie
 
 returns : tie.Need-returns
-unfolding plantOf
+unfolding shortestRunIn
 returns c =
     let p = c .before .before .pre in
     let x = plant-ranges _ _ p in

@@ -3,12 +3,12 @@ use borrow.Author.Needs.{needs}
 use native.Mathlib.Omega.{arith}
 use Rattle.plant_file.proofs.PlantAccess.{held2, answer}
 use Rattle.plant_file.proofs.PlantInRange.{plant-ranges}
-use Rattle.plant_file.specs.Plant.{plantOf}
+use Rattle.plant_file.specs.Plant.{weekMinutesIn}
 use Rattle.plant_file.proofs.week_minutes.Statement.{statement}
 use Rattle.plant_file.proofs.week_minutes.Tie as tie
 
 returns : tie.Need-returns
-unfolding plantOf
+unfolding weekMinutesIn
 returns c =
     let p = c .before .before .pre in
     answer (c .cell-in .ensures) (plant-ranges _ _ p .week-most)

@@ -7,7 +7,7 @@ use native.Mathlib.Omega.{arith}
 use lib.ListN.{length, take}
 use lib.Seq.{length-take-le}
 use Rattle.numbers.specs.Number.{Bytes}
-use Rattle.machine.specs.declared.Profit.{Profit}
+use Rattle.units.specs.declared.Profit.{Profit}
 use Rattle.calls.specs.declared.Check.the-variants as check
 use Rattle.calls.specs.declared.Written.the-variants as written
 use Rattle.calls.specs.Check.{checkOf}

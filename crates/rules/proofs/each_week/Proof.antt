@@ -7,12 +7,12 @@ use Prim.Native.Nat.{_≤_, _-_}
 use Rattle.mathematics.specs.Below.{allBelow}
 use Rattle.plant_file.specs.Plant.{plantOf}
 use Rattle.plan_file.specs.Plan.{planOf}
-use Rattle.rules.specs.Tried.{weekRule}
+use Rattle.rules.specs.Verdict.{trials, keepsOf}
 use Rattle.rules.proofs.each_week.Statement.{statement}
 use Rattle.rules.proofs.each_week.Tie as tie
 
 abbrev Inv-loop : tie.InvT-loop
-Inv-loop plant plan f n weeks ok₀ week₀ ok week = (week ≤ weeks) × (ok ≡ allBelow week (weekRule n (plantOf f plant) (planOf f plan)))
+Inv-loop plant plan f n weeks ok₀ week₀ ok week = (week ≤ weeks) × (ok ≡ allBelow week (keepsOf n (trials (plantOf f plant) (planOf f plan))))
 
 abbrev μ-loop : tie.MeasureT-loop
 μ-loop plant plan f n weeks ok₀ week₀ ok week = weeks - week

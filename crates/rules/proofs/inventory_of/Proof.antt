@@ -1,70 +1,42 @@
--- `rules::inventory_of` meets its contract. Assumes nothing.
+-- `rules::inventory_of` meets its contract: the loop has added the products below `product`. Assumes nothing.
 use borrow.Author.Needs.{needs}
-use native.Mathlib.Nat.{mul-one, mul-le-mul-right}
+use native.Mathlib.Numerals.{add-one}
 use native.Mathlib.Omega.{arith}
-use mathlib.Core.Path.{_≡_, refl, ap, _∙_}
-use Prim.Native.Nat.{ℕ, _+_, _*_, _^_, _≤_}
-use Rattle.mathematics.proofs.Below.{sum-ext}
-use Rattle.mathematics.proofs.Join.{table-below}
-use Rattle.numbers.specs.Number.{Bytes}
-use Rattle.contents.specs.Contents.{cell}
-use Rattle.sections.proofs.Rows.{width4}
-use Rattle.plant_file.proofs.PlantInRange.{plant-ranges}
+use mathlib.Core.Path.{_≡_, _∙_, refl}
+use Prim.Native.Nat.{_*_, _-_, _≤_}
+use Rattle.mathematics.specs.Below.{sumBelow}
 use Rattle.plant_file.specs.Plant.{plantOf}
 use Rattle.plan_file.specs.Plan.{planOf}
+use Rattle.plant_file.proofs.PlantInRange.{plant-ranges}
 use Rattle.rules.specs.Rules.{inventoryOf}
-use Rattle.rules.proofs.Costs.{Priced, costs, cost-most}
-use Rattle.rules.proofs.Spacing.{byte-times, spaced}
 use Rattle.rules.proofs.inventory_of.Statement.{statement}
 use Rattle.rules.proofs.inventory_of.Tie as tie
 
--- at most 16 products
-products : (c : tie.Start) → c .args .f .products ≤ 16
-unfolding plantOf
-products c = plant-ranges _ _ (c .pre .plant) .products-most
+abbrev Inv-loop : tie.InvT-loop
+Inv-loop plant plan f week n sum₀ product₀ sum product =
+    (product ≤ n) × (n ≤ 16) × (sum ≡ sumBelow product (λ i. plantOf f plant .inventoryCost i * planOf f plan .inventory week i))
+    × (sum ≤ product * 429496729500000)
 
-priced : (c : tie.Start) → Priced (c .args .plant .now) (c .args .f) 7 4 (c .args .f .products) 1 100000
-unfolding plantOf
-priced c =
-    record {
-      plant = c .pre .plant;
-      low = omega arith;
-      width = width4;
-      size = omega arith;
-      bounded = λ i j p q. let e : i * 1 + j ≡ i = omega arith in rw e (plant-ranges _ _ (c .pre .plant) .inventory-cost-most i p);
-      small = omega arith;
-    }
+abbrev μ-loop : tie.MeasureT-loop
+μ-loop plant plan f week n sum₀ product₀ sum product = n - product
 
-cost-cells-requires : tie.Need-cost-cells-requires
-cost-cells-requires c κs =
-    let s = c .before .before .before in
-    let n = s .args .f .products in
-    let w = s .args .week in
-    rw (c .count .ensures .0) (
-      rw (mul-one n) at (costs (priced s)),
-      spaced (s .args .f) (s .pre .plan) 9 (omega arith) width4 (omega arith) refl (omega (arith, products s)) (λ j. w * n + j) (λ j. omega arith)
-          (λ j l. table-below (s .pre .week) l),
-    )
+loop-holds : tie.Need-loop-holds Inv-loop μ-loop
+loop-holds c =
+    (search needs, omega (arith, plant-ranges _ _ (c .before .before .before .pre .plant) .products-most, c .count .ensures .0), refl, search needs)
 
-returns : tie.Need-returns
-unfolding inventoryOf plantOf planOf
-returns c =
-    let s = c .before .before .before .before in
-    let n = s .args .f .products in
-    let w = s .args .week in
-    let t = cell 4 (s .args .plant .now) 7 in
-    let y = cell 4 (s .args .plan .now) 9 in
-    let bytes : Bytes (s .args .plan .now) = λ i. c .before .before .shared-slice-known2 .given i .fits in
-    let r = rw (c .before .count .ensures .0) at (c .cost-cells .ensures) in
-    let most = cost-most (priced s) (s .args .plan .now) 9 4 (λ q. w * n + 1 * q) bytes in
-    let place : (q : ℕ) → w * n + 1 * q ≡ w * n + q = λ q. omega arith in (
-      r ∙ sum-ext n _ _ (λ q l. ap (λ (x : ℕ). t q * y x) (place q)),
-      rw r (omega (arith, rw (mul-one n) at most, mul-le-mul-right (100000 * 2 ^ 32) (products s))),
-    )
+loop-again : tie.Need-loop-again Inv-loop μ-loop
+loop-again c =
+    let d = c .before in
+    let i = d .before .before .before .before .loop .inv in
+    let e = d .charge .ensures .0 ∙ (λ u. d .before .before .inventory-cost .ensures .0 u * d .before .inventory .ensures .0 u) in
+    (search needs, i .1, rw add-one (omega (arith, i .2, e)), omega (arith, i .3, d .charge .ensures .1))
+
+returns : tie.Need-returns Inv-loop μ-loop
+unfolding inventoryOf
+returns c = let e : c .before .loop .product ≡ c .before .before .before .before .before .args .f .products = omega arith in (cc, omega arith)
 
 pub inventory-of-spec : {M : Type 1} → statement M
 inventory-of-spec =
     tie.close
-    (tie.spec (λ c κs. search needs)
-    (λ c. omega (arith, byte-times {a = c .before .before .before .args .week} (omega (arith, c .before .before .before .pre .week)) (c .count .ensures .1)))
-    cost-cells-requires returns)
+    (tie.spec Inv-loop μ-loop (λ c κs. search needs) loop-holds (λ c κs. search needs) (λ c κs. search needs) (λ c κs. search needs)
+    (λ c. search needs) (λ c. search needs) (λ c. search needs) loop-again returns)

@@ -2,20 +2,17 @@
 use borrow.Author.Needs.{needs}
 use native.Mathlib.Omega.{arith}
 use Prim.Native.Nat.{_≤_}
-use Rattle.plan_file.specs.Plan.{linePlanOf, planOf}
 use Rattle.rules.proofs.Weeks.{passage-first, passage-later}
 use Rattle.rules.proofs.passage_at.Statement.{statement}
 use Rattle.rules.proofs.passage_at.Tie as tie
 
 returns : tie.Need-returns
-unfolding planOf linePlanOf
-returns c = rw (passage-first _ _ _ _ (c .if1 .taken)) (cc)
+returns c = rw (passage-first _ _ _ _ _ (c .if1 .taken)) (cc)
 
 returns-2 : tie.Need-returns-2
-unfolding planOf linePlanOf
 returns-2 c =
     let h : 1 ≤ c .before .before .before .before .before .before .before .args .week = omega arith in
-    rw (passage-later _ _ _ _ h) (cc)
+    rw (passage-later _ _ _ _ _ h) (cc)
 
 pub passage-at-spec : {M : Type 1} → statement M
 passage-at-spec =

@@ -1,10 +1,7 @@
 -- `rules::position_at` meets its contract. Assumes nothing.
 use borrow.Author.Needs.{needs}
 use borrow.Author.Tests.{eq-eqb, ne-eqb}
-use native.Mathlib.Omega.{arith}
-use mathlib.Core.Path.{refl, sym, _∙_}
-use Rattle.sections.proofs.Rows.{width1}
-use Rattle.plan_file.specs.Plan.{linePlanOf, planOf}
+use mathlib.Core.Path.{sym, _∙_}
 use Rattle.rules.specs.Places.{positionAt}
 use Rattle.rules.proofs.position_at.Statement.{statement}
 use Rattle.rules.proofs.position_at.Tie as tie
@@ -16,13 +13,10 @@ returns c =
     rw (z, c .before .before .position .ensures .0)
 
 returns-2 : tie.Need-returns-2
-unfolding positionAt planOf linePlanOf
+unfolding positionAt
 returns-2 c =
-    let z = ne-eqb _ _ (λ e. c .before .before .if1 .left (c .before .before .before .assigned .ensures .0 ∙ e)) in
+    let z = ne-eqb _ _ (λ e. c .before .if1 .left (c .before .before .assigned .ensures .0 ∙ e)) in
     rw z (cc)
 
 pub position-at-spec : {M : Type 1} → statement M
-position-at-spec =
-    tie.close
-    (tie.spec (λ c κs. search needs) (λ c κs. search needs) returns
-    (λ c κs. (search needs, search needs, omega arith, width1, omega arith, refl)) (λ c κs. search needs) returns-2)
+position-at-spec = tie.close (tie.spec (λ c κs. search needs) (λ c κs. search needs) returns (λ c κs. search needs) returns-2)

@@ -20,7 +20,7 @@ Inv-loop plant plan f weeks gained₀ lost₀ week₀ gained lost week =
     (week ≤ weeks)
     × (gained ≡ sumBelow week (salesOf (plantOf f plant) (planOf f plan)))
     × (lost ≡ sumBelow week (costsOf (plantOf f plant) (planOf f plan)))
-    × (gained ≤ week * 2 ^ 56)
+    × (gained ≤ week * 2 ^ 58)
     × (lost ≤ week * 2 ^ 58)
 
 abbrev μ-loop : tie.MeasureT-loop
@@ -28,30 +28,23 @@ abbrev μ-loop : tie.MeasureT-loop
 
 -- at most 26 weeks
 weeks-most : (c : tie.After-count Inv-loop μ-loop) → c .count .result ≤ 26
-unfolding plantOf
 weeks-most c = omega (arith, plant-ranges _ _ (c .before .before .before .pre .0) .weeks-most, c .count .ensures .0)
 
 add-gained : tie.Need-add-gained Inv-loop μ-loop
 add-gained c =
-    let b = c .before .before .before .before in
-    omega (arith, weeks-most (b .before), b .loop .inv .3, c .before .before .sales-of .ensures .1)
+    let b = c .before .before .before in
+    omega (arith, weeks-most (b .before), b .loop .inv .3, c .before .week-money .ensures .2)
 
 add-lost : tie.Need-add-lost Inv-loop μ-loop
 add-lost c =
-    let b = c .before .before .before .before .before in
-    omega (arith, weeks-most (b .before), b .loop .inv .4, c .before .before .costs-of .ensures .1)
+    let b = c .before .before .before .before in
+    omega (arith, weeks-most (b .before), b .loop .inv .4, c .before .before .week-money .ensures .3)
 
 loop-again : tie.Need-loop-again Inv-loop μ-loop
 loop-again c =
-    let i = c .before .before .before .before .before .loop .inv in
-    let sales = c .before .before .before .sales-of .ensures in
-    let costs = c .before .before .costs-of .ensures in (
-      search needs,
-      rw add-one (omega (arith, i .1, sales .0)),
-      rw add-one (omega (arith, i .2, costs .0)),
-      omega (arith, i .3, sales .1),
-      omega (arith, i .4, costs .1),
-    )
+    let i = c .before .before .before .before .loop .inv in
+    let m = c .before .before .week-money .ensures in
+    (search needs, rw add-one (omega (arith, i .1, m .0)), rw add-one (omega (arith, i .2, m .1)), omega (arith, i .3, m .2), omega (arith, i .4, m .3))
 
 is-profit-requires : tie.Need-is-profit-requires Inv-loop μ-loop
 is-profit-requires c κs =
@@ -60,7 +53,6 @@ is-profit-requires c κs =
     (omega (arith, b .loop .inv .3), omega (arith, b .loop .inv .4))
 
 returns : tie.Need-returns Inv-loop μ-loop
-unfolding plantOf
 returns c =
     let b = c .before .before .before in
     let s = b .before .before .before .before in
@@ -74,5 +66,5 @@ pub profit-holds-spec : {M : Type 1} → statement M
 profit-holds-spec =
     tie.close
     (tie.spec Inv-loop μ-loop (λ c κs. search needs) (λ c. search needs) (λ c κs. search needs)
-    (λ c κs. search needs) add-gained add-lost (λ c. search needs) (λ c. search needs) loop-again
+    add-gained add-lost (λ c. search needs) (λ c. search needs) loop-again
     (λ c κs. search needs) is-profit-requires returns)

@@ -1,25 +1,74 @@
--- `rules::rule_in` meets its contract. Assumes nothing.
+-- `rules::rule_in` meets its contract: each arm knows the rule's number. Assumes nothing.
 use borrow.Author.Needs.{needs}
-use mathlib.Core.Path.{sym, _∙_}
-use Rattle.rules.specs.Tried.{weekRule}
-use Rattle.rules.proofs.PlaceRules.{week-marks, week-places}
+use borrow.Author.Tests.{ne-eqb}
+use mathlib.Core.Path.{_≡_}
+use Prim.Native.Nat.{_<_, _≤_}
+use Rattle.sections.specs.declared.Form.the-variants.{Good}
+use Rattle.plan_file.specs.Form.{planForm}
+use Rattle.plant_file.proofs.PlantInRange.{plant-ranges}
+use Rattle.rules.specs.Verdict.{trials, keepsOf}
 use Rattle.rules.proofs.rule_in.Statement.{statement}
 use Rattle.rules.proofs.rule_in.Tie as tie
 
+plan-at : (c : tie.Start) → (planForm (c .args .f) (c .args .plan .now) ≡ Good (c .args .f)) × (c .args .week < c .args .f .weeks) × (c .args .f .products ≤ 16)
+plan-at c = (c .pre .0 .plan, c .pre .0 .week, plant-ranges _ _ (c .pre .0 .plant) .products-most)
+
 returns : tie.Need-returns
-unfolding weekRule
-returns c = rw (c .before .if1 .taken) (c .week-fits .ensures)
+unfolding trials keepsOf
+returns c = rw (c .before .match .keys1) (c .marks-in .ensures)
 
 returns-2 : tie.Need-returns-2
-returns-2 c =
-    rw (c .and .ensures, c .before .one-mark .ensures, c .before .before .before .each-place .ensures, c .before .before .if2 .taken)
-    (sym (week-marks _ _ _ _))
+unfolding trials keepsOf
+returns-2 c = rw (c .before .match .keys2) (c .sequence-in .ensures)
 
 returns-3 : tie.Need-returns-3
-returns-3 c = c .before .each-place .ensures ∙ sym (week-places _ _ _ _ _ (c .if2 .left) (c .before .before .if1 .left))
+unfolding trials keepsOf
+returns-3 c = rw (c .before .match .keys3) (c .passages-in .ensures)
+
+returns-4 : tie.Need-returns-4
+unfolding trials keepsOf
+returns-4 c = rw (c .before .match .keys4) (c .positions-in .ensures)
+
+returns-5 : tie.Need-returns-5
+unfolding trials keepsOf
+returns-5 c = rw (c .before .match .keys5) (c .runs-in .ensures)
+
+returns-6 : tie.Need-returns-6
+unfolding trials keepsOf
+returns-6 c = rw (c .before .match .keys6) (c .week-fits .ensures)
+
+returns-7 : tie.Need-returns-7
+unfolding trials keepsOf
+returns-7 c = rw (c .before .match .keys7) (c .production-in .ensures)
+
+returns-8 : tie.Need-returns-8
+unfolding trials keepsOf
+returns-8 c = rw (c .before .match .keys8) (c .inventory-in .ensures)
+
+returns-9 : tie.Need-returns-9
+unfolding trials keepsOf
+returns-9 c = rw (c .before .match .keys9) (c .storage-in .ensures)
+
+returns-10 : tie.Need-returns-10
+unfolding trials keepsOf
+returns-10 c =
+    let r = c .match .rest in
+    rw (
+      ne-eqb _ _ (r .0 .0 .0 .0 .0 .0 .0 .0 .1),
+      ne-eqb _ _ (r .0 .0 .0 .0 .0 .0 .0 .1),
+      ne-eqb _ _ (r .0 .0 .0 .0 .0 .0 .1),
+      ne-eqb _ _ (r .0 .0 .0 .0 .0 .1),
+      ne-eqb _ _ (r .0 .0 .0 .0 .1),
+      ne-eqb _ _ (r .0 .0 .0 .1),
+      ne-eqb _ _ (r .0 .0 .1),
+      ne-eqb _ _ (c .before .before .before .pre .1),
+      ne-eqb _ _ (r .0 .1),
+      ne-eqb _ _ (r .1),
+    )
 
 pub rule-in-spec : {M : Type 1} → statement M
 rule-in-spec =
     tie.close
-    (tie.spec (λ c κs. search needs) returns (λ c κs. search needs) (λ c κs. search needs) (λ c κs. search needs)
-    returns-2 returns-3)
+    (tie.spec (λ c κs. search needs) (λ c κs. plan-at (c .before .before .before)) (λ c κs. plan-at (c .before .before .before)) (λ c κs. search needs) (λ c κs. search needs)
+    (λ c κs. search needs) (λ c κs. search needs) (λ c κs. search needs) (λ c κs. search needs)
+    returns returns-2 returns-3 returns-4 returns-5 returns-6 returns-7 returns-8 returns-9 returns-10)

@@ -1,12 +1,11 @@
 -- `rules::sequence_at` meets its contract. Assumes nothing.
 use borrow.Author.Needs.{needs}
-use Rattle.plan_file.specs.Plan.{linePlanOf, planOf}
 use Rattle.rules.specs.Places.{sequenceAt}
 use Rattle.rules.proofs.sequence_at.Statement.{statement}
 use Rattle.rules.proofs.sequence_at.Tie as tie
 
 returns : tie.Need-returns
-unfolding sequenceAt planOf linePlanOf
+unfolding sequenceAt
 returns c = cc
 
 pub sequence-at-spec : {M : Type 1} → statement M

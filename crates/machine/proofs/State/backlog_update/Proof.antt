@@ -4,7 +4,6 @@ use mathlib.Core.Path.{_≡_, refl}
 use borrow.Author.Needs.{needs}
 use native.Mathlib.Omega.{arith}
 use native.Mathlib.Numerals.{add-one}
-use native.Mathlib.Nat.{mul-le-mul}
 use lib.ListN.{getD}
 use Rattle.mathematics.specs.Below.{sumBelow, allBelow}
 use Rattle.plant_file.specs.Plant.{plantOf}
@@ -17,17 +16,17 @@ use Rattle.machine.proofs.State.backlog_update.Statement.{statement}
 use Rattle.machine.proofs.State.backlog_update.Tie as tie
 
 abbrev Inv-loop : tie.InvT-loop
-Inv-loop plant slots f week pairs backlog₀ due₀ revenue₀ charge₀ pair₀ backlog due revenue charge pair =
+Inv-loop plant slots f week pairs backlog₀ due₀ revenue₀ cost₀ pair₀ backlog due revenue cost pair =
     (pair ≤ pairs)
     × (backlog ≡ updateRow 0 pair (backlogAt (f .products) (plantOf f plant) week (salesOf f slots week)) backlog₀)
     × (due ≡ allBelow pair (dueAt (f .products) (plantOf f plant) week (salesOf f slots week) backlog₀))
     × (revenue ≡ sumBelow pair (revenueAt (f .products) (plantOf f plant) (salesOf f slots week)))
     × (revenue ≤ pair * 429496729600000)
-    × (charge ≡ sumBelow pair (newChargeAt (f .products) (plantOf f plant) week (salesOf f slots week) backlog₀))
-    × (charge ≤ pair * 280000000000000)
+    × (cost ≡ sumBelow pair (newChargeAt (f .products) (plantOf f plant) week (salesOf f slots week) backlog₀))
+    × (cost ≤ pair * 280000000000000)
 
 abbrev μ-loop : tie.MeasureT-loop
-μ-loop plant slots f week pairs backlog₀ due₀ revenue₀ charge₀ pair₀ backlog due revenue charge pair = pairs - pair
+μ-loop plant slots f week pairs backlog₀ due₀ revenue₀ cost₀ pair₀ backlog due revenue cost pair = pairs - pair
 
 -- the pair is one of the plant's, and has a place in the array
 known : (c : tie.In-loop Inv-loop μ-loop) → let start = c .before .before .before .before .before .before in
@@ -42,61 +41,58 @@ same : (c : tie.In-loop Inv-loop μ-loop) → let start = c .before .before .bef
     getD (c .before .loop .backlog) (c .before .loop .pair) 0 ≡ getD (start .args .self .backlog) (c .before .loop .pair) 0
 same c = cell-next _ _ _ _ (c .before .loop .inv .1)
 
--- what the pair owes is small, and so are its revenue and its charge
+-- what the pair owes is small
 owed : (c : tie.After-pair-demand Inv-loop μ-loop) → let turn = c .before .before .loop in
     getD (turn .backlog) (turn .pair) 0 + c .pair-demand .result ≤ 2800000000
 owed c =
     let start = c .before .before .before .before .before .before .before in
     omega (arith, same (c .before), start .pre .1 .backlog-most _ (known (c .before)), c .pair-demand .ensures .1)
 
-small-revenue : (c : tie.After-pair-price Inv-loop μ-loop) → c .pair-price .result * c .before .before .before .pair-sales .result ≤ 100000 * 4294967295
-small-revenue c =
-    let sold = c .before .before .before .pair-sales in
-    let h : sold .result ≤ 4294967295 = omega (arith, sold .ensures .1) in
-    mul-le-mul (c .pair-price .ensures .1) h
-
-small-charge : (c : tie.After-pair-backlog-cost Inv-loop μ-loop) → c .pair-backlog-cost .result * c .before .before .less .result ≤ 100000 * 2800000000
-small-charge c =
-    let h : c .before .before .less .result ≤ 2800000000 = omega (arith, c .before .before .less .ensures, owed (c .before .before .before .before .before)) in
-    mul-le-mul (c .pair-backlog-cost .ensures .1) h
-
 -- what is left of it
-left : (c : tie.After-less Inv-loop μ-loop) → let turn = c .before .before .before .before .before .loop in
-    let a = c .before .before .before .before .before .before .before .before .before .before .args in
-    c .less .result ≡ backlogAt (a .f .products) (plantOf (a .f) (a .plant .now)) (a .week) (salesOf (a .f) (a .slots .now) (a .week)) (turn .pair)
+left : (c : tie.After-less Inv-loop μ-loop) → let turn = c .before .before .before .before .before .before .before .loop in
+    let a = c .before .before .before .before .before .before .before .before .before .before .before .before .args in
+    c .less .result .0 ≡ backlogAt (a .f .products) (plantOf (a .f) (a .plant .now)) (a .week) (salesOf (a .f) (a .slots .now) (a .week)) (turn .pair)
     (getD (a .self .backlog) (turn .pair) 0)
 left c =
-    let demand = c .before .before .before in
-    rw (c .less .ensures, same (demand .before), demand .pair-demand .ensures .0, c .before .before .pair-sales .ensures .0)
+    let sales = c .before .before .before .before in
+    let demand = sales .before in
+    rw (c .less .ensures, same (demand .before), demand .pair-demand .ensures .0, sales .pair-sales .ensures .0)
+
+left-most : (c : tie.After-less Inv-loop μ-loop) → c .less .result .0 ≤ 2800000000
+left-most c = omega (arith, c .less .ensures, owed (c .before .before .before .before .before))
 
 add-revenue : tie.Need-add-revenue Inv-loop μ-loop
 add-revenue c =
-    let test = c .before .before .before .before .before in
-    omega (arith, small-revenue c, test .before .loop .inv .4, place test)
+    let bought = c .before .before .before in
+    let sales = bought .before .before .before .before .before .before in
+    let test = sales .before .before in
+    omega (arith, bought .charge .ensures .1, sales .pair-sales .ensures .1, test .before .loop .inv .4, place test)
 
-add-charge : tie.Need-add-charge Inv-loop μ-loop
-add-charge c =
-    let test = c .before .before .before .before .before .before in
-    omega (arith, small-charge c, test .before .loop .inv .6, place test)
+add-cost : tie.Need-add-cost Inv-loop μ-loop
+add-cost c =
+    let late = c .before .before in
+    let done = late .before .before .before .before in
+    let test = done .before .before .before .before .before .before in
+    omega (arith, late .charge2 .ensures .1, left-most done, test .before .loop .inv .6, place test)
 
 loop-again : tie.Need-loop-again Inv-loop μ-loop
 loop-again c =
-    let price = c .before in
-    let done = price .before in
-    let sales = done .before .before in
+    let late = c .before .before in
+    let bought = late .before .before in
+    let done = bought .before .before in
+    let sales = done .before .before .before .before in
     let demand = sales .before in
     let b = demand .before .before .loop in (
       search needs,
       cell-stored _ _ _ _ (b .inv .1) _ (left done),
       rw (add-one, done .before .and .ensures, b .inv .2, same (demand .before), sales .pair-sales .ensures .0, demand .pair-demand .ensures .0),
-      rw (add-one, ← (sales .pair-sales .ensures .0), ← (price .pair-price .ensures .0)) (omega (arith, b .inv .3)),
-      omega (arith, b .inv .4, small-revenue price),
-      rw (add-one, ← (left done), ← (c .pair-backlog-cost .ensures .0)) (omega (arith, b .inv .5)),
-      omega (arith, b .inv .6, small-charge c),
+      rw (add-one, ← (sales .pair-sales .ensures .0), ← (bought .before .pair-price .ensures .0)) (omega (arith, b .inv .3, bought .charge .ensures .0)),
+      omega (arith, b .inv .4, bought .charge .ensures .1, sales .pair-sales .ensures .1),
+      rw (add-one, ← (left done), ← (late .before .pair-backlog-cost .ensures .0)) (omega (arith, b .inv .5, late .charge2 .ensures .0)),
+      omega (arith, b .inv .6, late .charge2 .ensures .1, left-most done),
     )
 
 returns : tie.Need-returns Inv-loop μ-loop
-unfolding plantOf
 returns c =
     let start = c .before .before .before .before .before .before in
     let a = start .args in
@@ -129,14 +125,14 @@ backlog-update-spec =
     (λ c κs. search needs)
     (λ c κs. search needs)
     (λ c κs. search needs)
-    (λ c. omega (arith, place (c .before .before .before .before)))
-    (λ c. omega (arith, place (c .before .before .before .before)))
+    (λ c. omega (arith, place (c .before .before .before .before .before .before)))
+    (λ c. omega (arith, place (c .before .before .before .before .before .before)))
     (λ c κs. search needs)
-    (λ c. omega (arith, small-revenue c))
+    (λ c κs. (search needs, omega (arith, c .before .before .before .before .before .pair-sales .ensures .1)))
+    (λ c κs. search needs)
+    (λ c κs. (search needs, omega (arith, left-most (c .before .before .before))))
     add-revenue
-    (λ c κs. search needs)
-    (λ c. omega (arith, small-charge c))
-    add-charge
+    add-cost
     (λ c. search needs)
     (λ c. search needs)
     loop-again

@@ -4,7 +4,6 @@ use mathlib.Core.Path.{_≡_, refl, _∙_}
 use borrow.Author.Needs.{needs}
 use native.Mathlib.Omega.{arith}
 use native.Mathlib.Numerals.{add-one}
-use native.Mathlib.Nat.{mul-le-mul}
 use lib.ListN.{length, getD}
 use Rattle.mathematics.specs.Below.{sumBelow, allBelow}
 use Rattle.plant_file.specs.Plant.{plantOf}
@@ -17,16 +16,16 @@ use Rattle.machine.proofs.State.inventory_update.Statement.{statement}
 use Rattle.machine.proofs.State.inventory_update.Tie as tie
 
 abbrev Inv-loop : tie.InvT-loop
-Inv-loop plant slots f week products inventory₀ in-stock₀ kept₀ charge₀ product₀ inventory in-stock kept charge product =
+Inv-loop plant slots f week products inventory₀ in-stock₀ kept₀ cost₀ product₀ inventory in-stock kept cost product =
     (product ≤ products)
     × (inventory ≡ updateRow 0 product (inventoryAt (plantOf f plant) (salesOf f slots week)) inventory₀)
     × (in-stock ≡ allBelow product (inStockAt (plantOf f plant) (salesOf f slots week) inventory₀))
     × (kept ≡ allBelow product (keptAt (plantOf f plant) (salesOf f slots week) inventory₀))
-    × (charge ≡ sumBelow product (newChargeAt (plantOf f plant) (salesOf f slots week) inventory₀))
-    × (charge ≤ product * 2160000000000000)
+    × (cost ≡ sumBelow product (newChargeAt (plantOf f plant) (salesOf f slots week) inventory₀))
+    × (cost ≤ product * 2160000000000000)
 
 abbrev μ-loop : tie.MeasureT-loop
-μ-loop plant slots f week products inventory₀ in-stock₀ kept₀ charge₀ product₀ inventory in-stock kept charge product = products - product
+μ-loop plant slots f week products inventory₀ in-stock₀ kept₀ cost₀ product₀ inventory in-stock kept cost product = products - product
 
 -- the product is one of the plant's, and has a place in the array
 known : (c : tie.In-loop Inv-loop μ-loop) → c .before .loop .product < c .before .before .before .before .before .before .args .f .products
@@ -41,52 +40,46 @@ same : (c : tie.In-loop Inv-loop μ-loop) → let start = c .before .before .bef
 same c = cell-next _ _ _ _ (c .before .loop .inv .1)
 
 -- what is left of it
-left : (c : tie.After-less Inv-loop μ-loop) → let turn = c .before .before .before .before .loop in
-    let a = c .before .before .before .before .before .before .before .before .before .args in
-    c .less .result ≡ inventoryAt (plantOf (a .f) (a .plant .now)) (salesOf (a .f) (a .slots .now) (a .week)) (turn .product)
+left : (c : tie.After-less Inv-loop μ-loop) → let turn = c .before .before .before .before .before .before .loop in
+    let a = c .before .before .before .before .before .before .before .before .before .before .before .args in
+    c .less .result .0 ≡ inventoryAt (plantOf (a .f) (a .plant .now)) (salesOf (a .f) (a .slots .now) (a .week)) (turn .product)
     (getD (a .self .inventory) (turn .product) 0)
-unfolding plantOf
 left c =
-    let sold = c .before .before in
+    let sold = c .before .before .before .before in
     rw (c .less .ensures, same (sold .before), sold .sold-of .ensures)
 
--- its charge is small
-small : (c : tie.After-inventory-cost Inv-loop μ-loop) → let done = c .before .before .before .before .before in
-    c .inventory-cost .result * done .less .result ≤ 100000 * (4000000000 + 16 * 1100000000)
+left-most : (c : tie.After-less Inv-loop μ-loop) → c .less .result .0 ≤ 4000000000 + 16 * 1100000000
 unfolding inventoryOf
-small c =
-    let done = c .before .before .before .before .before in
-    let test = done .before .before .before in
+left-most c =
+    let test = c .before .before .before .before .before in
     let start = test .before .before .before .before .before .before in
-    let h : done .less .result ≤ 4000000000 + 16 * 1100000000 =
-    omega (arith, done .less .ensures, same test, start .pre .1 .inventory-most _ (known test)) in
-    mul-le-mul (c .inventory-cost .ensures .1) h
+    omega (arith, c .less .ensures, same test, start .pre .1 .inventory-most _ (known test))
 
-add-charge : tie.Need-add-charge Inv-loop μ-loop
-add-charge c =
-    let test = c .before .before .before .before .before .before .before .before in
-    omega (arith, small c, test .before .loop .inv .5, place test)
+add-cost : tie.Need-add-cost Inv-loop μ-loop
+add-cost c =
+    let done = c .before .before .before .before .before .before .before in
+    let test = done .before .before .before .before .before in
+    omega (arith, c .before .charge .ensures .1, left-most done, test .before .loop .inv .5, place test)
 
 loop-again : tie.Need-loop-again Inv-loop μ-loop
-unfolding plantOf
 loop-again c =
-    let tried = c .before in
+    let held = c .before in
+    let tried = held .before .before in
     let most = tried .before .before in
     let least = most .before in
     let done = least .before in
-    let sold = done .before .before in
+    let sold = done .before .before .before .before in
     let b = sold .before .before .loop in (
       search needs,
       cell-stored _ _ _ _ (b .inv .1) _ (left done),
       rw (add-one, done .before .and .ensures, b .inv .2, same (sold .before), sold .sold-of .ensures),
       rw (add-one, tried .and2 .ensures, tried .before .inside .ensures, b .inv .3, most .greatest-storage .ensures .0)
           (rw (least .least-storage .ensures .0, left done)),
-      rw (add-one, ← (left done), ← (c .inventory-cost .ensures .0)) (omega (arith, b .inv .4)),
-      omega (arith, b .inv .5, small c),
+      rw (add-one, ← (left done), ← (held .before .inventory-cost .ensures .0)) (omega (arith, b .inv .4, held .charge .ensures .0)),
+      omega (arith, b .inv .5, held .charge .ensures .1, left-most done),
     )
 
 returns : tie.Need-returns Inv-loop μ-loop
-unfolding plantOf
 returns c =
     let start = c .before .before .before .before .before .before in
     let a = start .args in
@@ -119,11 +112,11 @@ inventory-update-spec =
     (λ c κs. search needs)
     (λ c κs. search needs)
     (λ c κs. search needs)
-    (λ c. omega (arith, place (c .before .before .before .before .before .before .before)))
-    (λ c. omega (arith, place (c .before .before .before .before .before .before .before)))
+    (λ c. omega (arith, place (c .before .before .before .before .before .before .before .before .before)))
+    (λ c. omega (arith, place (c .before .before .before .before .before .before .before .before .before)))
     (λ c κs. search needs)
-    (λ c. omega (arith, small c))
-    add-charge
+    (λ c κs. (search needs, omega (arith, left-most (c .before .before .before .before .before))))
+    add-cost
     (λ c. search needs)
     (λ c. search needs)
     loop-again

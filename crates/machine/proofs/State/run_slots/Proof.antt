@@ -7,7 +7,7 @@ use native.Mathlib.Omega.{arith}
 use lib.ListN.{take}
 use Rattle.plant_file.specs.Plant.{plantOf}
 use Rattle.slot_file.specs.Slots.{Slot, slotCount, slotsOf}
-use Rattle.slot_file.proofs.SlotReads.{slot-below, slots-fit}
+use Rattle.slot_file.proofs.SlotReads.{slot-below, slots-fit, week-list}
 use Rattle.machine.specs.Row.{slotsIn, Runnable}
 use Rattle.machine.specs.Run.{runSlots}
 use Rattle.machine.proofs.Plants.{counts}
@@ -27,8 +27,7 @@ slot-row-requires c κs =
 -- what the row holds
 read : (c : tie.After-slot-row) → let a = c .before .before .before .before .args in
     slotsIn (take (c .before .slot-count .result) (c .slot-row .result)) ≡ slotsOf (a .f) (a .slots .now) .line .week (a .week)
-unfolding slotsOf
-read c = rw (← (c .before .slot-count .ensures .0), ← (c .before .before .before .before .pre .1)) (c .slot-row .ensures)
+read c = rw (week-list _ _ _, ← (c .before .slot-count .ensures .0), ← (c .before .before .before .before .pre .1)) (c .slot-row .ensures)
 
 run-lent-requires : tie.Need-run-lent-requires
 run-lent-requires c κs =

@@ -21,9 +21,9 @@ roomy c = sane-roomy (c .pre .1) (omega (arith, early c)) (omega arith)
 
 -- the profit and the week's amounts are small
 amounts : (c : tie.After-week-outcome) → (mag (c .before .before .before .before .before .args .self .profit .0) ≤ 4000000000000000000)
-    × (c .before .before .backlog-update .result .revenue ≤ 60000000000000000)
-    × (c .before .before .backlog-update .result .charge ≤ 60000000000000000)
-    × (c .before .inventory-update .result .charge ≤ 60000000000000000)
+    × (c .before .before .backlog-update .result .revenue .0 ≤ 60000000000000000)
+    × (c .before .before .backlog-update .result .charge .0 ≤ 60000000000000000)
+    × (c .before .inventory-update .result .charge .0 ≤ 60000000000000000)
 amounts c =
     let carried = c .before .before .backlog-update .ensures in
     let start = c .before .before .before .before .before in

@@ -25,8 +25,17 @@ module _ (b out : List ℕ) where
   long-enough h = let t = le-leb (length b) (length out) h in (rw t, rw t)
 
   -- the same, as the writers say it
-  pub stored : length b ≤ length out → outputAfter (bytes b) out ≡ store out 0 b
+  stored : length b ≤ length out → outputAfter (bytes b) out ≡ store out 0 b
   stored h = long-enough h .1 ∙ ap (λ (n : ℕ). b ++ drop n out) (sym (zero-add (length b)))
+
+-- as `refuse` leaves it where the output is too short, and as a writer leaves it
+module _ (b out : List ℕ) {after : List ℕ} {r : Written} where
+  pub short-as : length out < length b → (r ≡ Refused 51) × (after ≡ out) → (r ≡ writtenIn (bytes b) out) × (after ≡ outputAfter (bytes b) out)
+  short-as l h = let e = too-short b out l in (h .0 ∙ sym (e .0), h .1 ∙ sym (e .1))
+
+  pub written-as : {n : ℕ} → n ≡ length b → length b ≤ length out → (r ≡ Length n) × (after ≡ store out 0 b)
+      → (r ≡ writtenIn (bytes b) out) × (after ≡ outputAfter (bytes b) out)
+  written-as s l h = (h .0 ∙ (ap Length s ∙ sym (long-enough b out l .0)), h .1 ∙ sym (stored b out l))
 
 -- a refusal, as `refuse` leaves it
 pub refused-as : {a : Answer} {n : ℕ} {out after : List ℕ} {r : Written} → a ≡ refused n → (r ≡ Refused n) × (after ≡ out)

@@ -9,8 +9,6 @@ use Rattle.sections.specs.declared.Form.{Form}
 use Rattle.sections.specs.declared.Form.the-variants as form
 use Rattle.plant_file.specs.Plant.{plantOf}
 use Rattle.plant_file.specs.Form.{plantForm}
-use Rattle.plan_file.specs.Plan.{planOf}
-use Rattle.plan_file.specs.Form.{planForm}
 use Rattle.plan_file.specs.File.{planFile}
 use Rattle.slot_file.specs.Slots.{slotsOf}
 use Rattle.slot_file.specs.Form.{slotForm}
@@ -18,11 +16,11 @@ use Rattle.slot_file.specs.File.{slotFile}
 use Rattle.machine.specs.declared.Outcome.{Outcome}
 use Rattle.machine.specs.declared.Outcome.the-variants as outcome
 use Rattle.machine.specs.Run.{run}
-use Rattle.rules.specs.declared.Verdict.{Verdict}
-use Rattle.rules.specs.declared.Verdict.the-variants as verdict
-use Rattle.rules.specs.Verdict.{verdictOf}
 use Rattle.model.specs.RunTables.{runTables}
-use Rattle.model.specs.Match.{slotsShown}
+use Rattle.passed_plan.specs.declared.Judgement.{Judgement}
+use Rattle.passed_plan.specs.declared.Judgement.the-variants as judgement
+use Rattle.passed_plan.specs.Judgement.{judgementOf}
+use Rattle.passed_plan.specs.Shown.{shownIn}
 use Rattle.calls.specs.declared.Written.{Written}
 use Rattle.calls.specs.declared.Written.the-variants.{Length, Refused}
 
@@ -35,9 +33,9 @@ abbrev pub formAnswer : Form → (Shape → Answer) → Answer
 formAnswer (form.Good f) next = next f
 formAnswer (form.Refused n) next = refused n
 
-abbrev pub ruleAnswer : Verdict → Answer → Answer
-ruleAnswer (verdict.Passed p) next = next
-ruleAnswer (verdict.Broken n) next = refused n
+abbrev pub judgedAnswer : Judgement → (Shape → Answer) → Answer
+judgedAnswer (judgement.Passed p) next = next (p .shape)
+judgedAnswer (judgement.Refused n) next = refused n
 
 abbrev pub runAnswer : Outcome → Answer → Answer
 runAnswer outcome.Continues next = next
@@ -45,9 +43,7 @@ runAnswer (outcome.Stops n) next = refused n
 
 -- slot return: the slots that a passed plan shows, as a file
 unfoldable pub slotAnswer : (plant plan : List ℕ) → Answer
-slotAnswer plant plan =
-    formAnswer (plantForm plant) (λ f. formAnswer (planForm f plan) (λ _.
-    ruleAnswer (verdictOf (plantOf f plant) (planOf f plan)) (bytes (slotFile f (slotsShown (plantOf f plant) (planOf f plan))))))
+slotAnswer plant plan = judgedAnswer (judgementOf plant plan) (λ f. bytes (slotFile f (shownIn f plan)))
 
 -- plan writing: the tables of a run without a stop, as a file
 unfoldable pub planAnswer : (plant slots : List ℕ) → Answer

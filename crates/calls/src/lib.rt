@@ -2,11 +2,8 @@
 ghost use mathlib.Core.Path.{_≡_};
 ghost use Rattle.calls.specs.declared.Written.the-variants.{Refused};
 ghost use Rattle.calls.specs.Check.{checkOf};
-use plan_file::plan_form;
-use plant_file::plant_form;
-use rules::Verdict;
-use rules::judge;
-use sections::Form;
+use passed_plan::Judgement;
+use passed_plan::judge_files;
 use units::Profit;
 
 // What checking says of a plan: its profit, or the number of its refusal.
@@ -25,15 +22,12 @@ pub enum Written {
 pub fn check_plan(plant: &[u8], plan: &[u8]) -> Check
     ensures { λ r. ⌜ r ≡ checkOf (now (plant .entry)) (now (plan .entry)) ⌝ }
 {
-    match plant_form(plant) {
-        Form::Refused(n) => Check::Refused(n),
-        Form::Good(f) => match plan_form(plan, f) {
-            Form::Refused(n) => Check::Refused(n),
-            Form::Good(_) => match judge(plant, plan, f) {
-                Verdict::Passed(p) => Check::Passed(p),
-                Verdict::Broken(n) => Check::Refused(n),
-            },
-        },
+    match judge_files(plant, plan) {
+        Judgement::Passed(p) => {
+            let profit = p.profit;
+            Check::Passed(profit)
+        }
+        Judgement::Refused(n) => Check::Refused(n),
     }
 }
 

@@ -1,8 +1,8 @@
 -- A FILE IS THE LAYOUT OF ITS BODIES: bytes past rows 1 and 2 (11, 12; 21, 22) are `fileOf` of the bodies that their contents name.
 -- Assumes nothing.
-use Prim.Native.Nat.{ℕ, zero, suc, _+_, _*_, _≤_, _<_}
-use mathlib.Core.Path.{_≡_, refl, sym, ap, _∙_}
-use mathlib.Core.List.{List, [], _∷_, _++_, map}
+use Prim.Native.Nat.{ℕ, zero, _+_, _*_, _<_}
+use mathlib.Core.Path.{_≡_, sym, ap, _∙_}
+use mathlib.Core.List.{List, [], _++_, map}
 use native.Mathlib.Omega.{arith}
 use native.Mathlib.Nat.{mul-comm, zero-add}
 use lib.ListN.{length, getD, take, drop, length-map, List·getD-map}

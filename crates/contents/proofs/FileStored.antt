@@ -1,6 +1,6 @@
 -- A file written section by section: the contents, then each body where the one before ends, give the file and leave what follows it.
 -- Assumes nothing.
-use Prim.Native.Nat.{ℕ, zero, suc, _+_, _*_, _≤_, _<_}
+use Prim.Native.Nat.{ℕ, zero, _+_}
 use mathlib.Core.Path.{_≡_, refl, sym, ap, _∙_}
 use mathlib.Core.List.{List, [], _++_, map, append-assoc}
 use native.Mathlib.Omega.{arith}

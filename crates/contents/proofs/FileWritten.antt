@@ -3,21 +3,21 @@
 use Prim.Native.Nat.{ℕ, zero, suc, _+_, _*_, _^_, _≤_, _<_}
 use mathlib.Core.Path.{_≡_, refl, sym, ap, _∙_}
 use mathlib.Core.Bool.{true}
-use mathlib.Core.List.{List, [], _∷_, _++_, map, append-assoc, append-nil}
+use mathlib.Core.List.{List, [], _++_, map, append-nil}
 use native.Mathlib.Omega.{arith}
 use native.Mathlib.Numerals.{add-one}
 use native.Mathlib.Nat.{add-zero}
-use lib.ListN.{length, getD, take, drop, length-append, length-map}
+use lib.ListN.{length, getD, length-append, length-map}
 use Rattle.mathematics.specs.Below.{sumBelow, joinBelow}
 use Rattle.mathematics.proofs.Below.{sum-ext}
 use Rattle.mathematics.proofs.Join.{join-length, join-part}
 use Rattle.numbers.specs.Number.{numberAt, digits, part}
 use Rattle.numbers.proofs.Number.{number-digits}
-use Rattle.numbers.proofs.Store.{part-part, part-after, part-getD}
+use Rattle.numbers.proofs.Store.{part-part, part-after}
 use Rattle.contents.specs.Contents.{entryAt, entry, offset, extent, headed, edge, placed, sized}
 use Rattle.contents.specs.File.{start, entryBytes, contentsBytes, fileOf, Listable}
 use Rattle.contents.proofs.Entries.{entry-length, entries-place, entries-length, start-zero, start-next, start-below}
-use Rattle.contents.proofs.Facts.{Headed, Placed, facts-headed, facts-placed, at-sized}
+use Rattle.contents.proofs.Facts.{facts-headed, facts-placed, at-sized}
 use Rattle.contents.proofs.FileLayout.{body-length}
 
 module _ (kind first : ℕ) (bodies : List (List ℕ)) where

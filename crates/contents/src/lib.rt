@@ -3,7 +3,7 @@ ghost use mathlib.Core.Path.{_≡_};
 ghost use mathlib.Core.List.{_++_};
 ghost use lib.Dec.{eqb};
 ghost use Prim.Native.Nat.{_+_, _*_, _≤_, _<_, _^_};
-ghost use lib.ListN.{length, getD};
+ghost use lib.ListN.{length};
 ghost use Rattle.mathematics.specs.Below.{allBelow, joinBelow};
 ghost use Rattle.numbers.specs.Number.{store, digits};
 ghost use Rattle.contents.specs.Contents.{entryAt, entry, cell, numbersRight, headed, placed, sized, Inside};
@@ -100,7 +100,7 @@ fn has_numbers(s: &[u8], kind: u64, first: u64, count: usize) -> bool
 {
     and(
         wide(s[0]) == kind,
-        and(numbers::count(s[1]) == count, numbered(s, first, count)),
+        and(numbers::as_usize(s[1]) == count, numbered(s, first, count)),
     )
 }
 

@@ -1,55 +1,46 @@
 -- The first and the second demand hold. Assumes nothing.
-use Prim.Native.Nat.{ℕ, _≤_, _<_}
-use mathlib.Core.Path.{_≡_, refl, sym, ap, _∙_}
+use Prim.Native.Nat.{ℕ}
+use mathlib.Core.Path.{_≡_, refl, ap}
 use mathlib.Core.Logic.{_↔_}
 use mathlib.Core.List.{List}
 use native.Mathlib.Omega.{arith}
-use lib.ListN.{length}
 use Rattle.numbers.specs.Number.{Bytes}
 use Rattle.sections.specs.declared.Shape.{Shape}
-use Rattle.sections.specs.declared.Form.{Form}
 use Rattle.sections.specs.declared.Form.the-variants as form
-use Rattle.plant_file.specs.Plant.{plantOf}
 use Rattle.plant_file.specs.Form.{plantForm}
 use Rattle.plant_file.proofs.PlantInRange.{plant-ranges}
 use Rattle.plan_file.specs.Plan.{planOf}
 use Rattle.plan_file.specs.Form.{planForm}
 use Rattle.plan_file.proofs.PlanReads.{plan-fits}
-use Rattle.rules.specs.declared.Verdict.{Verdict}
-use Rattle.rules.specs.declared.Verdict.the-variants as verdict
-use Rattle.rules.specs.Verdict.{verdictOf}
-use Rattle.calls.specs.declared.Check.{Check}
-use Rattle.calls.specs.declared.Check.the-variants as check
-use Rattle.calls.specs.declared.Written.the-variants as written
-use Rattle.calls.specs.Check.{checkRows, checkRules, checkOf}
-use Rattle.calls.specs.Answer.{Answer, bytes, refused, formAnswer, ruleAnswer, slotAnswer, planAnswer, writtenIn, outputAfter}
-use Rattle.calls.proofs.Output.{too-short, refused-short}
 use Rattle.model.proofs.Agreement.{fits-binary}
 use Rattle.model.proofs.ModelTheorem.{model-rules, passed-objective}
+use Rattle.passed_plan.specs.declared.Judgement.{Judgement}
+use Rattle.passed_plan.specs.declared.Judgement.the-variants as judgement
+use Rattle.passed_plan.specs.Judgement.{planJudgement, judgementOf}
+use Rattle.calls.specs.declared.Check.the-variants as check
+use Rattle.calls.specs.declared.Written.the-variants as written
+use Rattle.calls.specs.Check.{checkFrom, checkOf}
+use Rattle.calls.specs.Answer.{Answer, bytes, refused, judgedAnswer, slotAnswer, planAnswer, writtenIn, outputAfter}
+use Rattle.calls.proofs.Output.{too-short, refused-short}
 use Rattle.demands.specs.FirstDemand.{FirstDemand, RefusalsKeep}
 use Rattle.demands.specs.SecondDemand.{SecondDemand}
-use Rattle.demands.proofs.ThirdDemandHolds.{passed-parts, parts-passed}
+use Rattle.demands.proofs.ThirdDemandHolds.{check-passing, passing-check}
 
--- ---- the same number, by rows and by rules
-rows-alike : (r : Form) (next : Shape → Check) (after : Shape → Answer) (n : ℕ)
-    → ((f : Shape) → (next f ≡ check.Refused n) ↔ (after f ≡ refused n)) → (checkRows r next ≡ check.Refused n) ↔ (formAnswer r after ≡ refused n)
-rows-alike (form.Good f) next after n h = h f
-rows-alike (form.Refused m) next after n h = (λ e. let i : m ≡ n = cc in ap refused i, λ e. let i : m ≡ n = cc in ap check.Refused i)
-
-rules-alike : (v : Verdict) (b : List ℕ) (n : ℕ) → (checkRules v ≡ check.Refused n) ↔ (ruleAnswer v (bytes b) ≡ refused n)
-rules-alike (verdict.Passed q) b n =
+-- one judgement refuses both with one number
+judged-alike : (j : Judgement) (file : Shape → List ℕ) (n : ℕ)
+    → (checkFrom j ≡ check.Refused n) ↔ (judgedAnswer j (λ f. bytes (file f)) ≡ refused n)
+judged-alike (judgement.Passed p) file n =
     (λ e. absurd (let z : _≡_ {A = ℕ} 0 1 = cc in omega arith), λ e. absurd (let z : _≡_ {A = ℕ} 0 1 = cc in omega arith))
-rules-alike (verdict.Broken m) b n = (λ e. let i : m ≡ n = cc in ap refused i, λ e. let i : m ≡ n = cc in ap check.Refused i)
+judged-alike (judgement.Refused m) file n = (λ e. let i : m ≡ n = cc in ap refused i, λ e. let i : m ≡ n = cc in ap check.Refused i)
 
 pub first-demand : (plant plan slots : List ℕ) → FirstDemand plant plan slots
-unfolding checkOf slotAnswer planAnswer
+unfolding checkOf slotAnswer planAnswer judgementOf planJudgement
 first-demand plant plan slots =
     record {
       plant-refused = λ n e. (rw e, rw e, rw e);
       plan-refused = λ f n e h. (rw (e, h), rw (e, h));
       rule-broken = λ f n e h v. (rw (e, h, v), rw (e, h, v));
-      refused-alike = λ n. rows-alike (plantForm plant) _ _ n (λ f. rows-alike (planForm f plan) _ _ n (λ _.
-          rules-alike (verdictOf (plantOf f plant) (planOf f plan)) _ n));
+      refused-alike = λ n. judged-alike (judgementOf plant plan) _ n;
       slots-refused = λ f n e h. rw (e, h);
       run-stopped = λ f n e h r. rw (e, h, r);
     }
@@ -65,7 +56,7 @@ unfolding writtenIn
 refusals-keep answer out =
     record {
       returned = λ n e. rw e;
-      too-short = λ b e. rw e (refused-short b out 51, λ h. too-short b out h .0);
+      too-short = λ b e. rw e (λ h. omega (arith, refused-short b out 51 h), λ h. too-short b out (omega arith) .0);
       untouched = kept answer out;
     }
 
@@ -74,10 +65,12 @@ pub second-demand : (plant : List ℕ) (f : Shape) (plan : List ℕ) → Bytes p
 second-demand plant f plan b accepted good =
     let R = plant-ranges plant f accepted in
     let rules = model-rules R (fits-binary (plan-fits f plan b good .line)) in
+    let passing = check-passing plant f accepted plan b in
+    let checks = passing-check plant f accepted plan b in
     record {
       passes-exactly = (
-        λ r. rules .0 (r .0, passed-parts plant f accepted plan b (r .0) (r .1) .1),
-        λ m. (let r = rules .1 m in (r .0, parts-passed plant f accepted plan b (r .0) good (r .1))),
+        λ r. rules .0 (r .0, passing (r .0) (r .1) .passes),
+        λ m. (let r = rules .1 m in (r .0, checks (r .0) (record { plant-good = accepted; plan-good = good; passes = r .1 }))),
       );
-      profit = λ q e. passed-objective R (planOf f plan) (passed-parts plant f accepted plan b q e .1);
+      profit = λ q e. passed-objective R (planOf f plan) (passing q e .passes);
     }

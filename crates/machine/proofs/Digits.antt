@@ -6,7 +6,7 @@ use native.Mathlib.Nat.{pow-suc, div-one, div-div-eq-div-mul, mul-comm, zero-div
 use Rattle.mathematics.specs.Below.{is}
 use Rattle.mathematics.proofs.Below.{is-same, is-other}
 use native.Mathlib.Decide.{ℕ-discrete}
-use mathlib.Core.Bool.{Bool, true, false}
+use mathlib.Core.Bool.{false}
 use mathlib.Core.Logic.{_≢_}
 use lib.Dec.{eqb}
 use borrow.Author.Tests.{eqb-false}

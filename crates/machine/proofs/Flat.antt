@@ -1,55 +1,14 @@
--- Tables by row and column as flat rows: tests, sums and updates of m rows of n numbers are those of m * n numbers. Laws of updates: the
--- value at each place inside and outside, the length. Assumes nothing.
+-- Updates of a row and of a table: the value at each place inside and outside, the length, and a table as one flat row. Assumes nothing.
 use Prim.Native.Nat.{ℕ, zero, suc, _+_, _*_, _/_, _%_, _<_, _≤_}
 use mathlib.Core.Path.{_≡_, refl, sym, _∙_}
-use mathlib.Core.Bool.{Bool, true, false, _&&_}
 use mathlib.Core.List.{List}
 use native.Mathlib.Omega.{arith}
 use native.Mathlib.Decide.{ℕ-discrete}
 use native.Mathlib.Nat.{add-zero, add-suc, zero-add, zero-mul, suc-mul}
 use lib.ListN.{length, getD, length-set}
 use lib.Seq.{getD-set-same, getD-set-other}
-use Rattle.mathematics.specs.Below.{sumBelow, allBelow}
-use Rattle.mathematics.proofs.Below.{sum-ext}
 use Rattle.mathematics.proofs.Join.{row-of, column-of, table-below}
 use Rattle.machine.specs.State.{updateRow, updateRows}
-
--- ---- tests
-pub all-ext : (n : ℕ) (p q : ℕ → Bool) → ((i : ℕ) → i < n → p i ≡ q i) → allBelow n p ≡ allBelow n q
-all-ext zero p q h = refl
-all-ext (suc n) p q h = rw (all-ext n p q (λ i l. h i (omega arith)), h n (omega arith))
-
-and-assoc : (a b c : Bool) → ((a && b) && c) ≡ (a && (b && c))
-and-assoc true b c = refl
-and-assoc false b c = refl
-
-and-true : (a : Bool) → (a && true) ≡ a
-and-true true = refl
-and-true false = refl
-
-all-add : (m n : ℕ) (p : ℕ → Bool) → allBelow (m + n) p ≡ (allBelow m p && allBelow n (λ j. p (m + j)))
-all-add m zero p = rw (add-zero, and-true)
-all-add m (suc n) p = rw (add-suc, all-add m n p, and-assoc)
-
-pub all-table : (m n : ℕ) (p : ℕ → ℕ → Bool) → allBelow m (λ c. allBelow n (λ i. p c i)) ≡ allBelow (m * n) (λ k. p (k / n) (k % n))
-all-table zero n p = rw zero-mul
-all-table (suc m) n p =
-    let q : ℕ → Bool = λ k. p (k / n) (k % n) in
-    let b : allBelow n (p m) ≡ allBelow n (λ j. q (m * n + j)) =
-    all-ext n (p m) (λ j. q (m * n + j)) (λ i l. sym ((λ u. p (row-of m l u) (column-of m l u)))) in
-    rw (suc-mul, all-add (m * n) n q, all-table m n p, b)
-
--- ---- sums
-sum-split : (m n : ℕ) (f : ℕ → ℕ) → sumBelow (m + n) f ≡ sumBelow m f + sumBelow n (λ j. f (m + j))
-sum-split m zero f = rw add-zero (omega arith)
-sum-split m (suc n) f = rw add-suc (omega (arith, sum-split m n f))
-
-pub sum-table : (m n : ℕ) (f : ℕ → ℕ → ℕ) → sumBelow m (λ c. sumBelow n (λ i. f c i)) ≡ sumBelow (m * n) (λ k. f (k / n) (k % n))
-sum-table zero n f = rw zero-mul
-sum-table (suc m) n f =
-    let g : ℕ → ℕ = λ k. f (k / n) (k % n) in
-    rw suc-mul
-    (omega (arith, sum-split (m * n) n g, sum-table m n f, sum-ext n (f m) (λ j. g (m * n + j)) (λ i l. sym ((λ u. f (row-of m l u) (column-of m l u))))))
 
 -- ---- updates of a row
 pub row-ext : (base n : ℕ) (f g : ℕ → ℕ → ℕ) (l : List ℕ) → ((i v : ℕ) → i < n → f i v ≡ g i v) → updateRow base n f l ≡ updateRow base n g l

@@ -9,30 +9,32 @@ use lib.Dec.{leb}
 use lib.ListN.{length, getD}
 use Rattle.mathematics.specs.Below.{sumBelow, allBelow}
 use Rattle.mathematics.proofs.Below.{sum-ext}
+use Rattle.mathematics.proofs.Tables.{all-ext, all-table, sum-table}
 use Rattle.plant_file.specs.Plant.{Plant}
+use Rattle.costs.specs.Money.{revenueOf, backlogChargeOf}
 use Rattle.machine.specs.declared.State.{State}
 use Rattle.machine.specs.State.{backlogOf, withBacklog, updateRow}
-use Rattle.machine.specs.Machine.{salesDue, backlogAfter}
-use Rattle.machine.specs.Files.{revenueOf, backlogChargeOf}
-use Rattle.machine.proofs.Flat.{all-ext, all-table, sum-table, row-first, rows-flat}
+use Rattle.machine.specs.Machine.{WeekInput, salesDue, backlogAfter}
+use Rattle.machine.proofs.Flat.{row-first, rows-flat}
 
 -- of n products
+module _ (n : ℕ) (v : WeekInput) where
+  abbrev pub dueAt : List ℕ → ℕ → Bool
+  dueAt l k = leb (v .sales (k / n) (k % n)) (getD l k 0 + v .demand (k / n) (k % n))
+
+  abbrev pub backlogAt : ℕ → ℕ → ℕ
+  backlogAt k before = before + v .demand (k / n) (k % n) - v .sales (k / n) (k % n)
+
 module _ (n : ℕ) (P : Plant) where
-  abbrev pub dueAt : ℕ → (ℕ → ℕ → ℕ) → List ℕ → ℕ → Bool
-  dueAt w sales l k = leb (sales (k / n) (k % n)) (getD l k 0 + P .demand (k / n) (k % n) w)
-
-  abbrev pub backlogAt : ℕ → (ℕ → ℕ → ℕ) → ℕ → ℕ → ℕ
-  backlogAt w sales k before = before + P .demand (k / n) (k % n) w - sales (k / n) (k % n)
-
-  abbrev pub revenueAt : (ℕ → ℕ → ℕ) → ℕ → ℕ
-  revenueAt sales k = P .price (k / n) (k % n) * sales (k / n) (k % n)
+  abbrev pub revenueAt : WeekInput → ℕ → ℕ
+  revenueAt v k = P .price (k / n) (k % n) * v .sales (k / n) (k % n)
 
   -- of the backlog, and of what it becomes
   abbrev pub chargeAt : State → ℕ → ℕ
   chargeAt s k = P .backlogCost (k / n) (k % n) * getD (s .backlog) k 0
 
-  abbrev pub newChargeAt : ℕ → (ℕ → ℕ → ℕ) → List ℕ → ℕ → ℕ
-  newChargeAt w sales l k = P .backlogCost (k / n) (k % n) * backlogAt w sales k (getD l k 0)
+  abbrev pub newChargeAt : WeekInput → List ℕ → ℕ → ℕ
+  newChargeAt v l k = P .backlogCost (k / n) (k % n) * backlogAt n v k (getD l k 0)
 
 -- the backlog of a pair
 pub backlog-at : (n : ℕ) (s : State) (k : ℕ) → backlogOf n s (k / n) (k % n) ≡ getD (s .backlog) k 0
@@ -40,36 +42,36 @@ unfolding backlogOf
 backlog-at n s k = ap (λ (j : ℕ). getD (s .backlog) j 0) (div-add-mod' k n)
 
 module _ (P : Plant) (s : State) where
-  pub due-flat : (w : ℕ) (sales : ℕ → ℕ → ℕ) → salesDue P w sales s ≡ allBelow (P .customers * P .products) (dueAt (P .products) P w sales (s .backlog))
-  unfolding salesDue
-  due-flat w sales =
-      let n = P .products in
-      all-table (P .customers) n (λ c i. leb (sales c i) (backlogOf n s c i + P .demand c i w))
-      ∙ all-ext (P .customers * n) _ (dueAt n P w sales (s .backlog)) (λ k l. rw (backlog-at n s k))
-
-  pub backlog-flat : (w : ℕ) (sales : ℕ → ℕ → ℕ)
-      → backlogAfter P w sales s ≡ withBacklog s (updateRow 0 (P .customers * P .products) (backlogAt (P .products) P w sales) (s .backlog))
-  unfolding backlogAfter
-  backlog-flat w sales = ap (withBacklog s) (rows-flat (P .customers) (P .products) (λ c i before. before + P .demand c i w - sales c i) (s .backlog))
-
-  pub charge-flat : backlogChargeOf P s ≡ sumBelow (P .customers * P .products) (chargeAt (P .products) P s)
+  pub charge-flat : backlogChargeOf P (backlogOf (P .products) s) ≡ sumBelow (P .customers * P .products) (chargeAt (P .products) P s)
   charge-flat =
       let n = P .products in
       sum-table (P .customers) n (λ c i. P .backlogCost c i * backlogOf n s c i)
       ∙ sum-ext (P .customers * n) _ (chargeAt n P s) (λ k l. rw (backlog-at n s k))
 
-module _ (P : Plant) (w : ℕ) (sales : ℕ → ℕ → ℕ) (s : State) where
-  pub backlog-new : backlogAfter P w sales s .backlog ≡ updateRow 0 (P .customers * P .products) (backlogAt (P .products) P w sales) (s .backlog)
+module _ (P : Plant) (v : WeekInput) (s : State) where
+  pub due-flat : salesDue P v s ≡ allBelow (P .customers * P .products) (dueAt (P .products) v (s .backlog))
+  unfolding salesDue
+  due-flat =
+      let n = P .products in
+      all-table (P .customers) n (λ c i. leb (v .sales c i) (backlogOf n s c i + v .demand c i))
+      ∙ all-ext (P .customers * n) _ (dueAt n v (s .backlog)) (λ k l. rw (backlog-at n s k))
+
+  pub backlog-flat : backlogAfter P v s ≡ withBacklog s (updateRow 0 (P .customers * P .products) (backlogAt (P .products) v) (s .backlog))
+  unfolding backlogAfter
+  backlog-flat = ap (withBacklog s) (rows-flat (P .customers) (P .products) (λ c i before. before + v .demand c i - v .sales c i) (s .backlog))
+
+  pub backlog-new : backlogAfter P v s .backlog ≡ updateRow 0 (P .customers * P .products) (backlogAt (P .products) v) (s .backlog)
   unfolding withBacklog
-  backlog-new = ap (λ (t : State). t .backlog) (backlog-flat P s w sales)
+  backlog-new = ap (λ (t : State). t .backlog) backlog-flat
 
   pub charge-new : P .customers * P .products ≤ length (s .backlog)
-      → backlogChargeOf P (backlogAfter P w sales s) ≡ sumBelow (P .customers * P .products) (newChargeAt (P .products) P w sales (s .backlog))
+      → backlogChargeOf P (backlogOf (P .products) (backlogAfter P v s))
+      ≡ sumBelow (P .customers * P .products) (newChargeAt (P .products) P v (s .backlog))
   charge-new room =
       let n = P .products in
-      charge-flat P (backlogAfter P w sales s)
-      ∙ sum-ext (P .customers * n) (chargeAt n P (backlogAfter P w sales s)) (newChargeAt n P w sales (s .backlog))
-      (λ k l. rw (backlog-new, row-first (P .customers * n) (backlogAt n P w sales) (s .backlog) room k l))
+      charge-flat P (backlogAfter P v s)
+      ∙ sum-ext (P .customers * n) (chargeAt n P (backlogAfter P v s)) (newChargeAt n P v (s .backlog))
+      (λ k l. rw (backlog-new, row-first (P .customers * n) (backlogAt n v) (s .backlog) room k l))
 
-pub revenue-flat : (P : Plant) (sales : ℕ → ℕ → ℕ) → revenueOf P sales ≡ sumBelow (P .customers * P .products) (revenueAt (P .products) P sales)
-revenue-flat P sales = sum-table (P .customers) (P .products) (λ c i. P .price c i * sales c i)
+  pub revenue-flat : revenueOf P (v .sales) ≡ sumBelow (P .customers * P .products) (revenueAt (P .products) P v)
+  revenue-flat = sum-table (P .customers) (P .products) (λ c i. P .price c i * v .sales c i)

@@ -20,7 +20,7 @@ use denote.Steps.{owned}
 use denote.Struct.Laws as structs
 use Rattle.sections.specs.declared.Shape.{Shape}
 use Rattle.machine.specs.declared.Outcome.the-variants.{Continues}
-use Rattle.machine.specs.declared.Slot.{Slot}
+use Rattle.slot_file.specs.declared.Slot.{Slot}
 use Rattle.machine.specs.declared.State.{State}
 use Rattle.machine.specs.declared.Step.{Step}
 use Rattle.machine.specs.State.{continues}
@@ -28,8 +28,8 @@ use Rattle.sections.proofs.Shape as shape
 use Rattle.sections.proofs.Shape.Laws as shape-laws
 use Rattle.machine.proofs.Outcome as outcome
 use Rattle.machine.proofs.Outcome.Laws as outcome-laws
-use Rattle.machine.proofs.Slot as slot
-use Rattle.machine.proofs.Slot.Laws as slot-laws
+use Rattle.slot_file.proofs.Slot as slot
+use Rattle.slot_file.proofs.Slot.Laws as slot-laws
 use Rattle.machine.proofs.State as state
 use Rattle.machine.proofs.State.Laws as state-laws
 use Rattle.machine.proofs.Step as step

@@ -1,16 +1,12 @@
--- A good plant's counts, and the changeover from what is mounted. Assumes nothing.
-use Prim.Native.Nat.{ℕ, _*_, _≤_, _<_}
+-- A good plant's counts. Assumes nothing.
+use Prim.Native.Nat.{ℕ, _*_, _≤_}
 use mathlib.Core.Path.{_≡_}
 use mathlib.Core.List.{List}
-use native.Mathlib.Omega.{arith}
 use native.Mathlib.Nat.{mul-le-mul}
 use Rattle.sections.specs.declared.Shape.{Shape}
 use Rattle.sections.specs.declared.Form.the-variants.{Good}
 use Rattle.plant_file.specs.Form.{plantForm}
 use Rattle.plant_file.proofs.PlantInRange.{plant-ranges}
-use Rattle.machine.specs.declared.Mounted.{Mounted}
-use Rattle.machine.specs.declared.Mounted.the-variants.{Product}
-use Rattle.machine.specs.Bounds.{mountedBelow}
 
 -- N ≤ 16, C ≤ 8, W ≤ 26, so there are at most 128 pairs of customer and product
 pub record Counts (f : Shape) : Type 0 where
@@ -23,7 +19,3 @@ pub counts : (s : List ℕ) (f : Shape) → plantForm s ≡ Good f → Counts f
 counts s f good =
     let r = plant-ranges s f good in
     record { products = r .products-most; customers = r .customers-most; weeks = r .weeks-most; pairs = mul-le-mul (r .customers-most) (r .products-most) }
-
--- what is mounted, by its number
-pub mounted-at : (N : ℕ) {m : Mounted} {q r : ℕ} → mountedBelow N m → m ≡ Product q → r ≡ q → r < N
-mounted-at N {m} {q} {r} h e g = let l : q < N = rw e at h in omega arith

@@ -1,48 +1,39 @@
 -- A row of slots, run one slot at a time: what is left to run, and what the next slot asks. Assumes nothing.
-use Prim.Native.Nat.{ℕ, zero, suc, _+_, _≤_, _<_, _^_}
+use Prim.Native.Nat.{ℕ, _+_, _≤_, _<_, _^_}
 use mathlib.Core.Path.{_≡_, refl, sym, ap, subst, _∙_}
-use mathlib.Core.List.{List, [], _∷_, _++_, map-append}
+use mathlib.Core.List.{List, _∷_}
 use native.Mathlib.Omega.{arith}
 use native.Mathlib.Numerals.{add-one}
-use lib.ListN.{length, getD, set, take, drop, length-map, List·getD-map}
-use lib.Seq.{take-suc-set, drop-cons, drop-length}
-use Rattle.mathematics.specs.Below.{listBelow}
+use lib.ListN.{length, getD, drop, length-map, List·getD-map}
+use lib.Seq.{drop-cons, drop-length}
 use Rattle.sections.specs.declared.Shape.{Shape}
 use Rattle.sections.specs.declared.Form.the-variants.{Good}
 use Rattle.plant_file.specs.Plant.{Plant, plantOf}
 use Rattle.plant_file.specs.Form.{plantForm}
 use Rattle.slot_file.specs.Slots.{Slot as FileSlot}
 use Rattle.machine.specs.declared.Outcome.the-variants.{Continues}
-use Rattle.machine.specs.declared.Slot.{Slot}
+use Rattle.slot_file.specs.declared.Slot.{Slot}
 use Rattle.machine.specs.declared.State.{State}
 use Rattle.machine.specs.declared.Step.{Step}
 use Rattle.machine.specs.State.{continues, andThen}
 use Rattle.machine.specs.Machine.{slotStep}
 use Rattle.machine.specs.Run.{runSlots}
 use Rattle.machine.specs.Bounds.{Sane, Roomy}
-use Rattle.machine.specs.Row.{slotOf, slotsIn, Runnable}
-use Rattle.machine.proofs.Runs.{went, then-went, then-ends, then-then}
+use Rattle.slot_file.specs.Row.{slotOf, slotsIn}
+use Rattle.machine.specs.Row.{Runnable}
+use Rattle.machine.proofs.Runs.{continued-step, then-continued, then-ends, then-then}
 use Rattle.machine.proofs.Sanity.{sane-roomy, slot-kept}
 
 -- what lies past the end of a row
 abbrev pub none : Slot
 none = record { product = 0; minutes = record { 0 = 0 } }
 
--- ---- the slots of a file, stored one after the other
-list-next : (n : ℕ) (g : ℕ → FileSlot) → listBelow (suc n) g ≡ listBelow n g ++ (g n ∷ [])
-list-next zero g = refl
-list-next (suc n) g = ap (λ (xs : List FileSlot). g 0 ∷ xs) (list-next n (λ k. g (suc k)))
-
-pub slot-stored : (row : List Slot) (k : ℕ) (t : Slot) (g : ℕ → FileSlot) → k < length row → slotsIn (take k row) ≡ listBelow k g → slotOf t ≡ g k
-    → slotsIn (take (k + 1) (set row k t)) ≡ listBelow (k + 1) g
-slot-stored row k t g l h e = rw (add-one, take-suc-set row k t l, map-append slotOf (take k row) (t ∷ []), h, e, list-next k g)
-
 -- ---- a run, slot by slot
 -- r is what the first i slots gave
 pub record Reached (f : Shape) (plant : List ℕ) (row : List Slot) (s : State) (i : ℕ) (r : Step) : Type 0 where
   pub within : i ≤ length row
   pub sane : r .outcome ≡ Continues → Sane f 26 i (r .state)
-  pub same : andThen r (runSlots (plantOf f plant) (drop i (slotsIn row))) ≡ runSlots (plantOf f plant) (slotsIn row) s
+  pub same : andThen r (runSlots (plantOf f plant) (plantOf f plant .line) (drop i (slotsIn row))) ≡ runSlots (plantOf f plant) (plantOf f plant .line) (slotsIn row) s
 
 -- what a slot asks after r
 abbrev pub Asked : Shape → List ℕ → Slot → Step → Type 0
@@ -57,10 +48,10 @@ module _ (f : Shape) (plant : List ℕ) (row : List Slot) (s : State) (asks : Ru
   row-starts = record { within = omega arith; sane = λ _. asks .sane; same = refl }
 
   module _ (i : ℕ) (r : Step) (at : Reached f plant row s i r) where
-    pub row-ends : i ≡ length row → r ≡ runSlots (plantOf f plant) (slotsIn row) s
+    pub row-ends : i ≡ length row → r ≡ runSlots (plantOf f plant) (plantOf f plant .line) (slotsIn row) s
     row-ends e =
         let all : drop i (slotsIn row) ≡ drop (length (slotsIn row)) (slotsIn row) = rw (e, length-map row slotOf) in
-        sym (then-ends r) ∙ (sym (ap (λ (xs : List FileSlot). andThen r (runSlots P xs)) (all ∙ drop-length (slotsIn row))) ∙ at .same)
+        sym (then-ends r) ∙ (sym (ap (λ (xs : List FileSlot). andThen r (runSlots P (P .line) xs)) (all ∙ drop-length (slotsIn row))) ∙ at .same)
 
     module _ (l : i < length row) where
       inside : i < length (slotsIn row)
@@ -80,17 +71,17 @@ module _ (f : Shape) (plant : List ℕ) (row : List Slot) (s : State) (asks : Ru
         λ e. sane-roomy (at .sane e) (omega arith) (omega (arith, asks .few, length-map row slotOf)),
       )
 
-      pub row-goes : Reached f plant row s (i + 1) (andThen r (slotStep (plantOf f plant) (slotOf (getD row i none))))
+      pub row-goes : Reached f plant row s (i + 1) (andThen r (slotStep (plantOf f plant) (plantOf f plant .line) (slotOf (getD row i none))))
       row-goes =
           let x = slotOf (getD row i none) in
-          let q = andThen r (slotStep P x) in
+          let q = andThen r (slotStep P (P .line) x) in
           let rest : drop i (slotsIn row) ≡ x ∷ drop (i + 1) (slotsIn row) = rw (drop-cons (slotsIn row) i (slotOf none) inside, found, add-one) in
           record {
             within = omega arith;
             sane = λ e.
-                let both = then-went r (slotStep P x) (q .state) (went q e) in
-                slot-kept plant f (asks .plant-good) x q known (at .sane (both .0)) (went q e ∙ sym (both .1)) e;
+                let both = then-continued r (slotStep P (P .line) x) (q .state) (continued-step q e) in
+                slot-kept plant f (asks .plant-good) x q known (at .sane (both .0)) (continued-step q e ∙ sym (both .1)) e;
             same =
-                then-then r (slotStep P x) (runSlots P (drop (i + 1) (slotsIn row)))
-                ∙ (sym (ap (λ (xs : List FileSlot). andThen r (runSlots P xs)) rest) ∙ at .same);
+                then-then r (slotStep P (P .line) x) (runSlots P (P .line) (drop (i + 1) (slotsIn row)))
+                ∙ (sym (ap (λ (xs : List FileSlot). andThen r (runSlots P (P .line) xs)) rest) ∙ at .same);
           }

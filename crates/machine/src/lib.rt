@@ -1,28 +1,27 @@
 // The plant machine: its state, and its three steps as methods by value. Each gives the whole state back, with a stop or without; at a
 // stop it is the state from before the step.
 ghost use mathlib.Core.Path.{_≡_};
-ghost use mathlib.Core.Bool.{true};
-ghost use Prim.Native.Nat.{_+_, _*_, _-_, _^_, _≤_, _<_};
-ghost use Rattle.mathematics.specs.Below.{sumBelow, listBelow};
+ghost use Prim.Native.Nat.{_+_, _-_, _^_, _≤_, _<_};
 ghost use lib.ListN.{replicate, take};
 ghost use Rattle.sections.specs.declared.Form.the-variants.{Good};
 ghost use Rattle.plant_file.specs.Plant.{plantOf};
 ghost use Rattle.plant_file.specs.Form.{plantForm};
-ghost use Rattle.slot_file.specs.Slots.{slotAt, slotsBefore, slotsOf};
+ghost use Rattle.slot_file.specs.Slots.{slotsOf};
 ghost use Rattle.slot_file.specs.Form.{slotForm};
-ghost use Rattle.machine.specs.Machine.{weekBegin, clockAfter, slotDone, slotStep, weekTested, weekEnd};
-ghost use Rattle.machine.specs.State.{hasRun, updateRow, updateRows, andThen};
-ghost use Rattle.machine.specs.declared.State.{State};
+ghost use Rattle.slot_file.specs.Row.{slotOf, slotsIn};
+ghost use Rattle.machine.specs.Machine.{weekBegin, clockAfter, slotStops, slotDone, slotStep, weekStops, weekEnd};
+ghost use Rattle.machine.specs.State.{hasRun, updateRow, updateRows, firstMet, stepped, andThen};
 ghost use Rattle.machine.specs.declared.Outcome.the-variants.{Continues};
-ghost use Rattle.machine.specs.Row.{slotOf, slotsIn, Runnable};
+ghost use Rattle.machine.specs.Row.{Runnable};
 ghost use Rattle.machine.specs.Run.{opening, runSlots, runWeek, run};
-ghost use Rattle.machine.specs.Files.{salesOf, Readable, BacklogUpdated, InventoryUpdated};
-ghost use Rattle.machine.specs.Bounds.{mountedBelow, Looked, Sane, Roomy};
+ghost use Rattle.machine.specs.Files.{weekOfFiles, Readable, BacklogUpdated, InventoryUpdated};
+ghost use Rattle.machine.specs.Bounds.{Sane, Roomy};
+use costs::Mounted;
+use costs::changeover_to;
+use costs::opening_mounted;
 use numbers::and;
-use numbers::count;
+use numbers::as_usize;
 use numbers::inside;
-use plant_file::changeover_cents;
-use plant_file::changeover_minutes;
 use plant_file::greatest_storage;
 use plant_file::inventory_cost;
 use plant_file::least_storage;
@@ -36,15 +35,13 @@ use plant_file::shortest_run;
 use plant_file::week_minutes;
 use sections::Shape;
 use sections::area;
+use slot_file::Slot;
 use slot_file::pair_sales;
-use slot_file::sales;
-use slot_file::slot_count;
-use slot_file::slot_minutes;
-use slot_file::slot_product;
-use units::Cents;
-use units::Changeover;
+use slot_file::week_slots;
 use units::Grams;
 use units::Minutes;
+use units::PairGrams;
+use units::ProductGrams;
 use units::Profit;
 use units::Rate;
 use units::Thousandths;
@@ -55,25 +52,25 @@ use units::in_thousandths;
 use units::pay;
 use units::produced;
 
-// The product that the line is set up for.
-pub enum Mounted {
-    Nothing,
-    Product(u8),
-}
-
-// A number stands between two arrays, and no array is indexed where it stands: the compiler can then hold each field apart.
-pub struct State {
-    // Grams of each product (the paper's stock).
-    pub inventory: [u64; 16],
+// What belongs to one line.
+pub struct LineState {
     // Minutes of the week that are used.
     pub clock: Minutes,
-    // Grams owed to customer c of product i, at c * N + i (the paper's owed).
-    pub backlog: [u64; 128],
-    // Profit so far (the paper's purse).
-    pub profit: Profit,
     // The products run this week: binary digit i for product i.
     pub ran: u64,
     pub mounted: Mounted,
+}
+
+// A number stands between the arrays and what has unused bytes comes last, and no array is indexed where it stands: the compiler can then
+// hold each field apart.
+pub struct State {
+    // Grams owed to customer c of product i, at c * N + i (the paper's owed).
+    pub backlog: [u32; 128],
+    // Profit so far (the paper's purse).
+    pub profit: Profit,
+    // Grams of each product (the paper's stock).
+    pub inventory: [u64; 16],
+    pub line: LineState,
 }
 
 // Whether a step stops the run, and with which number.
@@ -90,7 +87,7 @@ pub struct Step {
 
 // What the end of a week makes of the backlog: the new one, whether every sale is due, what the sales bring, and what it costs.
 pub struct BacklogUpdate {
-    pub backlog: [u64; 128],
+    pub backlog: PairGrams,
     pub due: bool,
     pub revenue: Thousandths,
     pub charge: Thousandths,
@@ -99,16 +96,10 @@ pub struct BacklogUpdate {
 // What the end of a week makes of the inventory: the new one, whether the sales are in stock, whether the new one is within its limits,
 // and what it costs.
 pub struct InventoryUpdate {
-    pub inventory: [u64; 16],
+    pub inventory: ProductGrams,
     pub in_stock: bool,
     pub kept: bool,
     pub charge: Thousandths,
-}
-
-// A production run: a product and its minutes.
-pub struct Slot {
-    pub product: usize,
-    pub minutes: Minutes,
 }
 
 // A mass less another, or 0.
@@ -121,66 +112,9 @@ fn less(a: Grams, b: Grams) -> Grams
     Grams(a.0 - b.0)
 }
 
-// The changeover from what is mounted to a product; from nothing there is none.
-pub fn changeover_to(plant: &[u8], f: Shape, mounted: Mounted, product: usize) -> Changeover
-    requires { ⌜ (plantForm (now plant) ≡ Good f) × mountedBelow (f .products) mounted × (product < f .products) ⌝ }
-    ensures { λ r. ⌜ Looked (plantOf f (now (plant .entry)) .line) mounted product r ⌝ }
-{
-    match mounted {
-        Mounted::Nothing => Changeover {
-            minutes: Minutes(0),
-            cents: Cents(0),
-        },
-        Mounted::Product(q) => {
-            let from = count(q);
-            let minutes = changeover_minutes(plant, f, from, product);
-            let cents = changeover_cents(plant, f, from, product);
-            Changeover {
-                minutes: Minutes(minutes),
-                cents: Cents(cents),
-            }
-        }
-    }
-}
-
-// A product's sales in a week, over the customers.
-pub fn sold_of(slots: &[u8], f: Shape, product: usize, week: usize) -> Grams
-    requires { ⌜ (slotForm f (now slots) ≡ Good f) × (product < f .products) × (week < f .weeks) ⌝ }
-    ensures { λ r. ⌜ r .0 ≡ sumBelow (f .customers) (λ c. salesOf f (now (slots .entry)) week c product) ⌝ }
-{
-    let customers = count(f.customers);
-    let mut sum = 0;
-    let mut customer = 0;
-    while customer < customers {
-        sum += sales(slots, f, customer, product, week);
-        customer += 1;
-    }
-    Grams(sum)
-}
-
-// Slots of the file at the start of an array: `count` of them, from slot `first` of all on.
-fn slot_row(slots: &[u8], f: Shape, first: usize, count: usize) -> [Slot; 16]
-    requires { ⌜ (slotForm f (now slots) ≡ Good f) × (first + count ≤ slotsBefore (now slots) (f .weeks)) × (count ≤ 16) ⌝ }
-    ensures { λ r. ⌜ slotsIn (take count r) ≡ listBelow count (λ k. slotAt (now (slots .entry)) (first + k)) ⌝ }
-{
-    let mut row = [Slot {
-        product: 0,
-        minutes: Minutes(0),
-    }; 16];
-    let mut k = 0;
-    while k < count {
-        let j = first + k;
-        let product = slot_product(slots, f, j);
-        let minutes = Minutes(slot_minutes(slots, f, j));
-        row[k] = Slot { product, minutes };
-        k += 1;
-    }
-    row
-}
-
 // The outcome of a week's end: the number of the first test that fails.
 fn week_outcome(due: bool, in_stock: bool, kept: bool) -> Outcome
-    ensures { λ r. ⌜ ((s t : State) → r ≡ weekTested due in_stock kept s t .outcome) ⌝ }
+    ensures { λ r. ⌜ r ≡ firstMet (weekStops due in_stock kept) ⌝ }
 {
     if !due {
         return Outcome::Stops(38);
@@ -198,7 +132,7 @@ fn week_outcome(due: bool, in_stock: bool, kept: bool) -> Outcome
 fn slot_after(r: Step, plant: &[u8], f: Shape, slot: Slot) -> Step
     requires { ⌜ (plantForm (now plant) ≡ Good f) × (slot .product < f .products) × (slot .minutes .0 < 2 ^ 16)
         × (r .outcome ≡ Continues → Roomy f (r .state)) ⌝ }
-    ensures { λ q. ⌜ q ≡ andThen r (slotStep (plantOf f (now (plant .entry))) (slotOf slot)) ⌝ }
+    ensures { λ q. ⌜ q ≡ andThen r (slotStep (plantOf f (now (plant .entry))) (plantOf f (now (plant .entry)) .line) (slotOf slot)) ⌝ }
 {
     let so_far = r.outcome;
     if let Outcome::Stops(_) = so_far {
@@ -212,41 +146,52 @@ impl State {
     pub fn week_begin(self) -> State
         ensures { λ r. ⌜ r ≡ weekBegin self ⌝ }
     {
-        let mut s = self;
-        s.ran = 0;
-        s.clock.0 = 0;
-        s
+        let line = self.line;
+        let begun = LineState {
+            clock: Minutes(0),
+            ran: 0,
+            ..line
+        };
+        State {
+            line: begun,
+            ..self
+        }
     }
 
     // The clock after a run: the changeover's minutes, and the run's.
     fn clock_after(self, plant: &[u8], f: Shape, product: usize, time: Minutes) -> Minutes
         requires { ⌜ (plantForm (now plant) ≡ Good f) × (product < f .products) × (time .0 < 2 ^ 16) × Roomy f self ⌝ }
-        ensures { λ r. ⌜ r .0 ≡ clockAfter (plantOf f (now (plant .entry))) (record { product = product; minutes = time .0 }) self ⌝ }
+        ensures { λ r. ⌜ r .0 ≡ clockAfter (plantOf f (now (plant .entry)) .line) (record { product = product; minutes = time .0 }) self ⌝ }
     {
-        let mounted = self.mounted;
+        let line = self.line;
+        let mounted = line.mounted;
         let over = changeover_to(plant, f, mounted, product);
-        Minutes(self.clock.0 + over.minutes.0 + time.0)
+        Minutes(line.clock.0 + over.minutes.0 + time.0)
     }
 
     // The state after a run that does not stop.
     fn slot_done(self, plant: &[u8], f: Shape, product: usize, time: Minutes) -> State
         requires { ⌜ (plantForm (now plant) ≡ Good f) × (product < f .products) × (time .0 < 2 ^ 16) × Roomy f self ⌝ }
-        ensures { λ r. ⌜ r ≡ slotDone (plantOf f (now (plant .entry))) (record { product = product; minutes = time .0 }) self ⌝ }
+        ensures { λ r. ⌜ r ≡ slotDone (plantOf f (now (plant .entry)) .line) (record { product = product; minutes = time .0 }) self ⌝ }
     {
-        let mounted = self.mounted;
+        let line = self.line;
+        let mounted = line.mounted;
         let over = changeover_to(plant, f, mounted, product);
         let grams = produced(Rate(rate(plant, f, product)), time);
         let mut inventory = self.inventory;
         inventory[product] = inventory[product] + grams.0;
-        let ran = self.ran + (1u64 << product);
+        let ran = line.ran + (1u64 << product);
         let clock = self.clock_after(plant, f, product, time);
         let profit = pay(self.profit, in_thousandths(over.cents));
-        State {
-            inventory,
+        let left = LineState {
             clock,
-            profit,
             ran,
             mounted: Mounted::Product(product as u8),
+        };
+        State {
+            inventory,
+            line: left,
+            profit,
             ..self
         }
     }
@@ -256,13 +201,15 @@ impl State {
         requires { ⌜ product < 16 ⌝ }
         ensures { λ r. ⌜ r ≡ hasRun self product ⌝ }
     {
-        (self.ran >> product) % 2 == 1
+        let line = self.line;
+        (line.ran >> product) % 2 == 1
     }
 
     // How a run ends: stop 25, 35 or 36, or none.
     fn slot_outcome(self, plant: &[u8], f: Shape, product: usize, time: Minutes) -> Outcome
         requires { ⌜ (plantForm (now plant) ≡ Good f) × (product < f .products) × (time .0 < 2 ^ 16) × Roomy f self ⌝ }
-        ensures { λ r. ⌜ r ≡ slotStep (plantOf f (now (plant .entry))) (record { product = product; minutes = time .0 }) self .outcome ⌝ }
+        ensures { λ r. ⌜ r ≡ firstMet (slotStops (plantOf f (now (plant .entry))) (plantOf f (now (plant .entry)) .line)
+            (record { product = product; minutes = time .0 }) self) ⌝ }
     {
         if self.has_run(product) {
             return Outcome::Stops(25);
@@ -286,9 +233,9 @@ impl State {
         product: usize,
         time: Minutes,
     ) -> State
-        requires { ⌜ (plantForm (now plant) ≡ Good f) × (product < f .products) × (time .0 < 2 ^ 16) × Roomy f self
-            × (outcome ≡ slotStep (plantOf f (now plant)) (record { product = product; minutes = time .0 }) self .outcome) ⌝ }
-        ensures { λ r. ⌜ r ≡ slotStep (plantOf f (now (plant .entry))) (record { product = product; minutes = time .0 }) self .state ⌝ }
+        requires { ⌜ (plantForm (now plant) ≡ Good f) × (product < f .products) × (time .0 < 2 ^ 16) × Roomy f self ⌝ }
+        ensures { λ r. ⌜ r ≡ stepped outcome self
+            (slotDone (plantOf f (now (plant .entry)) .line) (record { product = product; minutes = time .0 }) self) .state ⌝ }
     {
         if let Outcome::Stops(_) = outcome {
             return self;
@@ -299,7 +246,8 @@ impl State {
     // One run: stop 25, 35 or 36, or the state after it.
     pub fn slot(self, plant: &[u8], f: Shape, product: usize, time: Minutes) -> Step
         requires { ⌜ (plantForm (now plant) ≡ Good f) × (product < f .products) × (time .0 < 2 ^ 16) × Roomy f self ⌝ }
-        ensures { λ r. ⌜ r ≡ slotStep (plantOf f (now (plant .entry))) (record { product = product; minutes = time .0 }) self ⌝ }
+        ensures { λ r. ⌜ r ≡ slotStep (plantOf f (now (plant .entry))) (plantOf f (now (plant .entry)) .line)
+            (record { product = product; minutes = time .0 }) self ⌝ }
     {
         let outcome = self.slot_outcome(plant, f, product, time);
         let after = self.slot_state(outcome, plant, f, product, time);
@@ -312,7 +260,7 @@ impl State {
     // The demand added to the backlog and the sales taken from it, pair by pair.
     fn backlog_update(self, plant: &[u8], slots: &[u8], f: Shape, week: usize) -> BacklogUpdate
         requires { ⌜ Readable f (now plant) (now slots) week × Roomy f self ⌝ }
-        ensures { λ r. ⌜ BacklogUpdated (plantOf f (now (plant .entry))) week (salesOf f (now (slots .entry)) week) self r ⌝ }
+        ensures { λ r. ⌜ BacklogUpdated (plantOf f (now (plant .entry))) (weekOfFiles f (now (plant .entry)) (now (slots .entry)) week) self r ⌝ }
     {
         let pairs = area(f.customers, f.products);
         let mut backlog = self.backlog;
@@ -321,11 +269,12 @@ impl State {
         let mut cost = 0;
         let mut pair = 0;
         while pair < pairs {
-            let owed = Grams(backlog[pair] + pair_demand(plant, f, pair, week));
+            let before = backlog[pair] as u64;
+            let owed = Grams(before + pair_demand(plant, f, pair, week));
             let sold = Grams(pair_sales(slots, f, pair, week));
             due = and(due, sold.0 <= owed.0);
             let left = less(owed, sold);
-            backlog[pair] = left.0;
+            backlog[pair] = left.0 as u32;
             let bought = charge(UnitCost(pair_price(plant, f, pair)), sold);
             let late = charge(UnitCost(pair_backlog_cost(plant, f, pair)), left);
             revenue += bought.0;
@@ -333,7 +282,7 @@ impl State {
             pair += 1;
         }
         BacklogUpdate {
-            backlog,
+            backlog: PairGrams(backlog),
             due,
             revenue: Thousandths(revenue),
             charge: Thousandths(cost),
@@ -343,16 +292,16 @@ impl State {
     // The sales taken from the inventory, product by product.
     fn inventory_update(self, plant: &[u8], slots: &[u8], f: Shape, week: usize) -> InventoryUpdate
         requires { ⌜ Readable f (now plant) (now slots) week × Roomy f self ⌝ }
-        ensures { λ r. ⌜ InventoryUpdated (plantOf f (now (plant .entry))) (salesOf f (now (slots .entry)) week) self r ⌝ }
+        ensures { λ r. ⌜ InventoryUpdated (plantOf f (now (plant .entry))) (weekOfFiles f (now (plant .entry)) (now (slots .entry)) week) self r ⌝ }
     {
-        let products = count(f.products);
+        let products = as_usize(f.products);
         let mut inventory = self.inventory;
         let mut in_stock = true;
         let mut kept = true;
         let mut cost = 0;
         let mut product = 0;
         while product < products {
-            let sold = sold_of(slots, f, product, week);
+            let sold = Grams(slot_file::sold(slots, f, week, product));
             let before = Grams(inventory[product]);
             in_stock = and(in_stock, sold.0 <= before.0);
             let left = less(before, sold);
@@ -365,7 +314,7 @@ impl State {
             product += 1;
         }
         InventoryUpdate {
-            inventory,
+            inventory: ProductGrams(inventory),
             in_stock,
             kept,
             charge: Thousandths(cost),
@@ -375,7 +324,7 @@ impl State {
     // The end of a week: stop 38, 39 or 40, or the state after it.
     pub fn week_end(self, plant: &[u8], slots: &[u8], f: Shape, week: usize) -> Step
         requires { ⌜ Readable f (now plant) (now slots) week × Sane f week 16 self ⌝ }
-        ensures { λ r. ⌜ r ≡ weekEnd (plantOf f (now (plant .entry))) week (salesOf f (now (slots .entry)) week) self ⌝ }
+        ensures { λ r. ⌜ r ≡ weekEnd (plantOf f (now (plant .entry))) (weekOfFiles f (now (plant .entry)) (now (slots .entry)) week) self ⌝ }
     {
         let carried = self.backlog_update(plant, slots, f, week);
         let sold = self.inventory_update(plant, slots, f, week);
@@ -390,8 +339,8 @@ impl State {
             pay(gain(self.profit, carried.revenue), carried.charge),
             sold.charge,
         );
-        let inventory = sold.inventory;
-        let backlog = carried.backlog;
+        let inventory = sold.inventory.0;
+        let backlog = carried.backlog.0;
         let state = State {
             inventory,
             backlog,
@@ -407,7 +356,7 @@ impl State {
     // The slots of a row in their order; the first stop ends the run.
     pub fn run_row(self, plant: &[u8], f: Shape, row: &[Slot]) -> Step
         requires { ⌜ Runnable f (now plant) (slotsIn (now row)) self ⌝ }
-        ensures { λ r. ⌜ r ≡ runSlots (plantOf f (now (plant .entry))) (slotsIn (now (row .entry))) self ⌝ }
+        ensures { λ r. ⌜ r ≡ runSlots (plantOf f (now (plant .entry))) (plantOf f (now (plant .entry)) .line) (slotsIn (now (row .entry))) self ⌝ }
     {
         let mut r = Step {
             state: self,
@@ -424,27 +373,28 @@ impl State {
     // The first `count` slots of an array, lent as a row.
     fn run_lent(self, plant: &[u8], f: Shape, slots: [Slot; 16], count: usize) -> Step
         requires { ⌜ Runnable f (now plant) (slotsIn (take count slots)) self × (count ≤ 16) ⌝ }
-        ensures { λ r. ⌜ r ≡ runSlots (plantOf f (now (plant .entry))) (slotsIn (take count slots)) self ⌝ }
+        ensures { λ r. ⌜ r ≡ runSlots (plantOf f (now (plant .entry))) (plantOf f (now (plant .entry)) .line) (slotsIn (take count slots)) self ⌝ }
     {
         self.run_row(plant, f, &slots[..count])
     }
 
-    // The week's slots in their order, the first of them slot `first` of all; the first stop ends the run.
-    pub fn run_slots(self, plant: &[u8], slots: &[u8], f: Shape, week: usize, first: usize) -> Step
-        requires { ⌜ Readable f (now plant) (now slots) week × (first ≡ slotsBefore (now slots) week) × Sane f week 0 self ⌝ }
-        ensures { λ r. ⌜ r ≡ runSlots (plantOf f (now (plant .entry))) (slotsOf f (now (slots .entry)) .line .week week) self ⌝ }
+    // The week's slots in their order; the first stop ends the run.
+    pub fn run_slots(self, plant: &[u8], slots: &[u8], f: Shape, week: usize) -> Step
+        requires { ⌜ Readable f (now plant) (now slots) week × Sane f week 0 self ⌝ }
+        ensures { λ r. ⌜ r ≡ runSlots (plantOf f (now (plant .entry))) (plantOf f (now (plant .entry)) .line)
+            (slotsOf f (now (slots .entry)) .line .week week) self ⌝ }
     {
-        let count = slot_count(slots, f, week);
-        let row = slot_row(slots, f, first, count);
-        self.run_lent(plant, f, row, count)
+        let row = week_slots(slots, f, week);
+        let slots_of_week = row.slots;
+        self.run_lent(plant, f, slots_of_week, row.count)
     }
 
     // A week: it begins, its slots run, it ends.
-    pub fn run_week(self, plant: &[u8], slots: &[u8], f: Shape, week: usize, first: usize) -> Step
-        requires { ⌜ Readable f (now plant) (now slots) week × (first ≡ slotsBefore (now slots) week) × Sane f week 0 self ⌝ }
-        ensures { λ r. ⌜ r ≡ runWeek (plantOf f (now (plant .entry))) (slotsOf f (now (slots .entry))) week self ⌝ }
+    pub fn run_week(self, plant: &[u8], slots: &[u8], f: Shape, week: usize) -> Step
+        requires { ⌜ Readable f (now plant) (now slots) week × Sane f week 0 self ⌝ }
+        ensures { λ r. ⌜ r ≡ runWeek (plantOf f (now (plant .entry))) (weekOfFiles f (now (plant .entry)) (now (slots .entry)) week) self ⌝ }
     {
-        let r = self.week_begin().run_slots(plant, slots, f, week, first);
+        let r = self.week_begin().run_slots(plant, slots, f, week);
         let outcome = r.outcome;
         if let Outcome::Stops(_) = outcome {
             return r;
@@ -454,33 +404,33 @@ impl State {
 }
 
 // Section 10's inventory, product by product.
-fn opening_row(plant: &[u8], f: Shape) -> [u64; 16]
+fn opening_row(plant: &[u8], f: Shape) -> ProductGrams
     requires { ⌜ plantForm (now plant) ≡ Good f ⌝ }
-    ensures { λ r. ⌜ r ≡ updateRow 0 (f .products) (λ i _. plantOf f (now (plant .entry)) .openingInventory i) (replicate 16 0) ⌝ }
+    ensures { λ r. ⌜ r .0 ≡ updateRow 0 (f .products) (λ i _. plantOf f (now (plant .entry)) .openingInventory i) (replicate 16 0) ⌝ }
 {
-    let products = count(f.products);
+    let products = as_usize(f.products);
     let mut row = [0; 16];
     let mut product = 0;
     while product < products {
         row[product] = opening_inventory(plant, f, product);
         product += 1;
     }
-    row
+    ProductGrams(row)
 }
 
 // Section 10's backlog, pair by pair.
-fn opening_table(plant: &[u8], f: Shape) -> [u64; 128]
+fn opening_table(plant: &[u8], f: Shape) -> PairGrams
     requires { ⌜ plantForm (now plant) ≡ Good f ⌝ }
-    ensures { λ r. ⌜ r ≡ updateRows (f .customers) (f .products) (λ c i _. plantOf f (now (plant .entry)) .openingBacklog c i) (replicate 128 0) ⌝ }
+    ensures { λ r. ⌜ r .0 ≡ updateRows (f .customers) (f .products) (λ c i _. plantOf f (now (plant .entry)) .openingBacklog c i) (replicate 128 0) ⌝ }
 {
     let pairs = area(f.customers, f.products);
     let mut table = [0; 128];
     let mut pair = 0;
     while pair < pairs {
-        table[pair] = pair_opening_backlog(plant, f, pair);
+        table[pair] = pair_opening_backlog(plant, f, pair) as u32;
         pair += 1;
     }
-    table
+    PairGrams(table)
 }
 
 // The state before the first week.
@@ -488,29 +438,32 @@ pub fn opening_state(plant: &[u8], f: Shape) -> State
     requires { ⌜ plantForm (now plant) ≡ Good f ⌝ }
     ensures { λ r. ⌜ r ≡ opening (plantOf f (now (plant .entry))) ⌝ }
 {
-    let inventory = opening_row(plant, f);
-    let backlog = opening_table(plant, f);
-    State {
-        inventory,
+    let inventory = opening_row(plant, f).0;
+    let backlog = opening_table(plant, f).0;
+    let mounted = opening_mounted(plant, f);
+    let line = LineState {
         clock: Minutes(0),
+        ran: 0,
+        mounted,
+    };
+    State {
         backlog,
         profit: Profit(0),
-        ran: 0,
-        mounted: Mounted::Nothing,
+        inventory,
+        line,
     }
 }
 
 // The next week; a run that has stopped stays as it is.
-fn week_after(r: Step, plant: &[u8], slots: &[u8], f: Shape, week: usize, first: usize) -> Step
-    requires { ⌜ Readable f (now plant) (now slots) week × (first ≡ slotsBefore (now slots) week)
-        × (r .outcome ≡ Continues → Sane f week 0 (r .state)) ⌝ }
-    ensures { λ q. ⌜ q ≡ andThen r (runWeek (plantOf f (now (plant .entry))) (slotsOf f (now (slots .entry))) week) ⌝ }
+fn week_after(r: Step, plant: &[u8], slots: &[u8], f: Shape, week: usize) -> Step
+    requires { ⌜ Readable f (now plant) (now slots) week × (r .outcome ≡ Continues → Sane f week 0 (r .state)) ⌝ }
+    ensures { λ q. ⌜ q ≡ andThen r (runWeek (plantOf f (now (plant .entry))) (weekOfFiles f (now (plant .entry)) (now (slots .entry)) week)) ⌝ }
 {
     let outcome = r.outcome;
     if let Outcome::Stops(_) = outcome {
         return r;
     }
-    r.state.run_week(plant, slots, f, week, first)
+    r.state.run_week(plant, slots, f, week)
 }
 
 // The run of a slot file; the first stop ends it.
@@ -518,17 +471,15 @@ pub fn run(plant: &[u8], slots: &[u8], f: Shape) -> Step
     requires { ⌜ (plantForm (now plant) ≡ Good f) × (slotForm f (now slots) ≡ Good f) ⌝ }
     ensures { λ r. ⌜ r ≡ run (plantOf f (now (plant .entry))) (slotsOf f (now (slots .entry))) ⌝ }
 {
-    let weeks = count(f.weeks);
+    let weeks = as_usize(f.weeks);
     let state = opening_state(plant, f);
     let mut r = Step {
         state,
         outcome: Outcome::Continues,
     };
-    let mut first = 0;
     let mut week = 0;
     while week < weeks {
-        r = week_after(r, plant, slots, f, week, first);
-        first += slot_count(slots, f, week);
+        r = week_after(r, plant, slots, f, week);
         week += 1;
     }
     r

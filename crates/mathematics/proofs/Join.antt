@@ -1,12 +1,12 @@
 -- Laws of lists joined end to end: their length, the place of each in the whole, and a list as the join of its parts. Assumes nothing.
-use Prim.Native.Nat.{ℕ, zero, suc, _+_, _*_, _/_, _%_, _<_, _≤_}
+use Prim.Native.Nat.{ℕ, zero, suc, _+_, _*_, _/_, _%_, _<_}
 use mathlib.Core.Path.{_≡_, refl, sym, ap, _∙_}
-use mathlib.Core.List.{List, [], _∷_, _++_, append-assoc, append-nil}
+use mathlib.Core.List.{List, _++_, append-assoc, append-nil}
 use native.Mathlib.Omega.{arith}
 use native.Mathlib.Decide.{ℕ-discrete}
 use native.Mathlib.Nat.{add-zero, add-suc, suc-mul, mul-le-mul-right, mul-add-div-right, mul-add-mod-self-right, div-eq-of-lt, mod-eq-of-lt}
 use lib.ListN.{length, take, drop, length-append}
-use lib.Seq.{take-add, drop-drop, take-append-seam, drop-append-seam, drop-at, take-at}
+use lib.Seq.{take-add, drop-drop, take-append-seam, drop-at}
 use Rattle.mathematics.specs.Below.{sumBelow, joinBelow}
 use Rattle.mathematics.proofs.Below.{sum-ext, sum-const}
 

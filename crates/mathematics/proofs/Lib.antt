@@ -2,6 +2,8 @@ pub mod Below
 pub mod Join
 pub mod Lists
 pub mod Sums
+pub mod Tables
+pub mod Pairs
 pub mod WeekRules
 pub mod WeekPositions
 pub mod OrderTables

@@ -1,9 +1,9 @@
 -- What the tables of an order say, in terms of where its products stand; and they meet the rules. Assumes nothing.
 use Prim.Native.Nat.{ℕ, suc, _+_, _*_, _-_, _<_, _≤_}
-use mathlib.Core.Path.{_≡_, sym, ap, _∙_}
+use mathlib.Core.Path.{_≡_, refl, sym, ap, _∙_}
 use mathlib.Core.Logic.{_↔_}
 use mathlib.Core.Bool.{true, not}
-use mathlib.Core.List.{List}
+use mathlib.Core.List.{List, [], _∷_}
 use native.Mathlib.Omega.{arith}
 use native.Mathlib.Decide.{ℕ-discrete, decLt}
 use lib.ListN.{length}
@@ -11,30 +11,28 @@ use lib.Dec.{eqb, ltb}
 use borrow.Author.Tests.{ltb-true, lt-ltb, eqb-false, ne-eqb, not-true}
 use Rattle.mathematics.specs.Below.{sumBelow, allBelow, is}
 use Rattle.mathematics.specs.Week.{count}
-use Rattle.mathematics.specs.Order.{orderAt, isOrder, assignedIn, firstIn, lastIn, positionIn, changeoverIn, orderTables}
-use Rattle.mathematics.proofs.Below.{sum-ext, sum-const, sum-first, sum-only, sum-some, sum-is}
-use Rattle.mathematics.proofs.Below.{is-same, is-other, is-eq, is-le, mul-both, and-three, both-and, all-each, each-all}
+use Rattle.mathematics.specs.Order.{orderAt, ProductsBelow, isOrder, assignedIn, firstIn, lastIn, positionFrom, positionIn, changeoverIn, orderTables}
+use Rattle.mathematics.proofs.Below.{sum-ext, sum-zero, sum-add, sum-const, sum-first, sum-only, sum-some, sum-unique, sum-is, sum-is-times}
+use Rattle.mathematics.proofs.Below.{is-same, is-other, is-eq, mul-both, and-both, both-and, all-each, each-all}
 use Rattle.mathematics.proofs.Sums.{bit-le-one, sum-all-is}
 use Rattle.mathematics.proofs.WeekRules.{WeekFacts}
 
 -- ---- what `isOrder` tests, both ways
 pub record OrderFacts (N : ℕ) (order : List ℕ) : Type 0 where
-  pub some : 0 < length order
-  pub below : (k : ℕ) → k < length order → orderAt order k < N
+  pub below : ProductsBelow N order
   pub distinct : (k l : ℕ) → k < length order → l < length order → orderAt order k ≡ orderAt order l → k ≡ l
 
 module _ (N : ℕ) (order : List ℕ) where
   pub order-facts : isOrder N order ≡ true → OrderFacts N order
   unfolding isOrder
   order-facts h =
-      let r = and-three (ltb 0 (length order)) (allBelow (length order) (λ k. ltb (orderAt order k) N))
+      let r = and-both (allBelow (length order) (λ k. ltb (orderAt order k) N))
       (allBelow (length order) (λ k. allBelow k (λ l. not (eqb (orderAt order l) (orderAt order k))))) h in
       let earlier : (k l : ℕ) → k < length order → l < k → orderAt order l ≡ orderAt order k → ⊥ =
       λ k l m s. eqb-false (orderAt order l) (orderAt order k) (not-true (eqb (orderAt order l) (orderAt order k))
-      (all-each k (λ v. not (eqb (orderAt order v) (orderAt order k))) (all-each (length order) _ (r .2) k m) l s)) in
+      (all-each k (λ v. not (eqb (orderAt order v) (orderAt order k))) (all-each (length order) _ (r .1) k m) l s)) in
       record {
-        some = ltb-true 0 (length order) (r .0);
-        below = λ k l. ltb-true (orderAt order k) N (all-each (length order) (λ v. ltb (orderAt order v) N) (r .1) k l);
+        below = λ k l. ltb-true (orderAt order k) N (all-each (length order) (λ v. ltb (orderAt order v) N) (r .0) k l);
         distinct = λ k l m s e. elim (decLt k l) [
           | yes p ↦ absurd (earlier l k s p e)
           | no p ↦ elim (decLt l k) [ yes q ↦ absurd (earlier k l m q (sym e)) | no q ↦ omega arith ]
@@ -44,9 +42,8 @@ module _ (N : ℕ) (order : List ℕ) where
   pub facts-order : OrderFacts N order → isOrder N order ≡ true
   unfolding isOrder
   facts-order o =
-      both-and _ _ (both-and _ _
-      (lt-ltb 0 (length order) (o .some))
-      (each-all (length order) _ (λ k l. lt-ltb (orderAt order k) N (o .below k l))))
+      both-and _ _
+      (each-all (length order) _ (λ k l. lt-ltb (orderAt order k) N (o .below k l)))
       (each-all (length order) _ (λ k l. each-all k _ (λ m s. ap not (ne-eqb (orderAt order m) (orderAt order k)
       (λ e. let q : m ≡ k = o .distinct m k (omega arith) l e in omega arith)))))
 
@@ -65,10 +62,55 @@ sum-where N order o m b c k i l e =
     (λ v s d. rw (is-other (orderAt order v) i (λ q. d (o .distinct v k (omega arith) (omega arith) (q ∙ sym e)))) (omega arith))
     ∙ rw (is-same (orderAt order k) i e) (omega arith)
 
-assigned-sum : (order : List ℕ) (i : ℕ) → assignedIn order i ≡ sumBelow (length order) (λ k. is (orderAt order k) i * 1)
-unfolding assignedIn
-assigned-sum order i =
-    sum-ext (length order) (λ k. is (orderAt order k) i) (λ k. is (orderAt order k) i * 1) (λ k l. omega arith)
+-- ---- the tables as such sums
+pub assigned-sum : (order : List ℕ) (i : ℕ) → assignedIn order i ≡ sumBelow (length order) (λ k. is (orderAt order k) i * 1)
+assigned-sum [] i = refl
+assigned-sum (p ∷ ps) i = omega (arith, assigned-sum ps i, sum-first (length ps) (λ k. is (orderAt (p ∷ ps) k) i * 1))
+
+position-from : (k : ℕ) (order : List ℕ) (i : ℕ)
+    → positionFrom k order i ≡ sumBelow (length order) (λ m. is (orderAt order m) i * suc (k + m))
+position-from k [] i = refl
+position-from k (p ∷ ps) i =
+    omega (
+      arith,
+      position-from (suc k) ps i,
+      sum-first (length ps) (λ m. is (orderAt (p ∷ ps) m) i * suc (k + m)),
+      sum-ext (length ps) (λ m. is (orderAt ps m) i * suc (suc k + m)) (λ m. is (orderAt ps m) i * suc (k + suc m))
+          (λ m l. ap (λ (x : ℕ). is (orderAt ps m) i * suc x) (omega arith)),
+    )
+
+pub position-sum : (order : List ℕ) (i : ℕ) → positionIn order i ≡ sumBelow (length order) (λ m. is (orderAt order m) i * suc m)
+position-sum order i =
+    position-from 0 order i
+    ∙ sum-ext (length order) (λ m. is (orderAt order m) i * suc (0 + m)) (λ m. is (orderAt order m) i * suc m) (λ m k. omega arith)
+
+neighbours-at : (p : ℕ) (ps : List ℕ) (i j : ℕ)
+    → changeoverIn (p ∷ ps) i j ≡ sumBelow (length ps) (λ k. is (orderAt (p ∷ ps) k) i * is (orderAt (p ∷ ps) (suc k)) j)
+neighbours-at p [] i j = omega arith
+neighbours-at p (q ∷ ps) i j =
+    omega (
+      arith,
+      neighbours-at q ps i j,
+      sum-first (length ps) (λ k. is (orderAt (p ∷ q ∷ ps) k) i * is (orderAt (p ∷ q ∷ ps) (suc k)) j),
+    )
+
+less-one : (n : ℕ) → suc n - 1 ≡ n
+less-one n = omega arith
+
+pub changeover-sum : (order : List ℕ) (i j : ℕ)
+    → changeoverIn order i j ≡ sumBelow (length order - 1) (λ k. is (orderAt order k) i * is (orderAt order (suc k)) j)
+changeover-sum [] i j = refl
+changeover-sum (p ∷ ps) i j = rw (less-one (length ps)) (neighbours-at p ps i j)
+
+-- products below N, none twice, are an order
+pub an-order : (N : ℕ) (ps : List ℕ) → ProductsBelow N ps → ((i : ℕ) → i < N → assignedIn ps i ≤ 1) → isOrder N ps ≡ true
+an-order N ps below once =
+    facts-order N ps (record {
+      below = below;
+      distinct = λ k m l s e. sum-unique (length ps) (λ u. is (orderAt ps u) (orderAt ps m) * 1)
+          (omega (arith, assigned-sum ps (orderAt ps m), once (orderAt ps m) (below m s))) k m l s
+          (omega (arith, is-same (orderAt ps k) (orderAt ps m) e)) (omega (arith, is-same (orderAt ps m) (orderAt ps m) refl));
+    })
 
 -- an entry that is not 0 has an index in the order
 module _ (order : List ℕ) where
@@ -78,25 +120,51 @@ module _ (order : List ℕ) where
       (r .0, r .1, r .2)
 
   pub position-index : (i : ℕ) → 1 ≤ positionIn order i → (k : ℕ) × (k < length order) × (orderAt order k ≡ i)
-  unfolding positionIn
-  position-index i h = let r = sum-where-some order i (length order) suc h in (r .0, r .1, r .2)
+  position-index i h = let r = sum-where-some order i (length order) suc (rw (position-sum order i) at h) in (r .0, r .1, r .2)
 
   pub changeover-index : (i j : ℕ) → 1 ≤ changeoverIn order i j
       → (k : ℕ) × (suc k < length order) × (orderAt order k ≡ i) × (orderAt order (suc k) ≡ j)
-  unfolding changeoverIn
   changeover-index i j h =
-      let r = sum-where-some order i (length order - 1) (λ k. is (orderAt order (suc k)) j) h in
+      let r = sum-where-some order i (length order - 1) (λ k. is (orderAt order (suc k)) j) (rw (changeover-sum order i j) at h) in
       (r .0, omega (arith, r .1), r .2, is-eq (orderAt order (suc (r .0))) j (r .3))
 
-  -- F: it stands first
-  pub first-means : (i : ℕ) → firstIn order i ≡ 1 ↔ orderAt order 0 ≡ i
-  unfolding firstIn
-  first-means i = (λ e. is-eq (orderAt order 0) i (omega arith), is-same (orderAt order 0) i)
+-- ---- the sums of the tables, for products below N
+module _ (N : ℕ) where
+  rest : (p : ℕ) (ps : List ℕ) → ProductsBelow N (p ∷ ps) → ProductsBelow N ps
+  rest p ps b k l = b (suc k) (omega arith)
 
-  -- L: it stands last
-  pub last-means : (i : ℕ) → lastIn order i ≡ 1 ↔ orderAt order (length order - 1) ≡ i
-  unfolding lastIn
-  last-means i = (λ e. is-eq (orderAt order (length order - 1)) i (omega arith), is-same (orderAt order (length order - 1)) i)
+  -- a first and a last product, where there is one
+  pub sum-first-in : (ps : List ℕ) → ProductsBelow N ps → 0 < length ps → sumBelow N (firstIn ps) ≡ 1
+  sum-first-in [] b h = absurd (omega arith)
+  sum-first-in (p ∷ ps) b h = sum-is N p (b 0 (omega arith))
+
+  pub sum-last-in : (ps : List ℕ) → ProductsBelow N ps → 0 < length ps → sumBelow N (lastIn ps) ≡ 1
+  sum-last-in [] b h = absurd (omega arith)
+  sum-last-in (p ∷ []) b h = sum-is N p (b 0 (omega arith))
+  sum-last-in (p ∷ q ∷ ps) b h = sum-last-in (q ∷ ps) (rest p (q ∷ ps) b) (omega arith)
+
+  -- Z into a product, and out of it
+  into : (ps : List ℕ) → ProductsBelow N ps → (j : ℕ) → sumBelow N (λ i. changeoverIn ps i j) + firstIn ps j ≡ assignedIn ps j
+  into [] b j = omega (arith, sum-zero N (λ i. 0) (λ i l. refl))
+  into (p ∷ ps) b j =
+      omega (
+        arith,
+        sum-add N (λ i. is p i * firstIn ps j) (λ i. changeoverIn ps i j),
+        sum-is-times N p (firstIn ps j) (b 0 (omega arith)),
+        into ps (rest p ps b) j,
+      )
+
+  out : (ps : List ℕ) → ProductsBelow N ps → (i : ℕ) → sumBelow N (λ j. changeoverIn ps i j) + lastIn ps i ≡ assignedIn ps i
+  out [] b i = omega (arith, sum-zero N (λ j. 0) (λ j l. refl))
+  out (p ∷ []) b i = omega (arith, sum-zero N (λ j. is p i * 0 + 0) (λ j l. omega arith))
+  out (p ∷ q ∷ ps) b i =
+      omega (
+        arith,
+        sum-add N (λ j. is p i * is q j) (λ j. changeoverIn (q ∷ ps) i j),
+        sum-ext N (λ j. is p i * is q j) (λ j. is q j * is p i) (λ j l. omega arith),
+        sum-is-times N q (is p i) (b 1 (omega arith)),
+        out (q ∷ ps) (rest p (q ∷ ps) b) i,
+      )
 
 module _ (N : ℕ) (order : List ℕ) (o : OrderFacts N order) where
   -- ---- the entries of a product that stands at k
@@ -104,13 +172,12 @@ module _ (N : ℕ) (order : List ℕ) (o : OrderFacts N order) where
   assigned-of k i l e = assigned-sum order i ∙ sum-where N order o (length order) (omega arith) (λ v. 1) k i l e
 
   position-of : (k i : ℕ) → k < length order → orderAt order k ≡ i → positionIn order i ≡ suc k
-  unfolding positionIn
-  position-of k i l e = sum-where N order o (length order) (omega arith) suc k i l e
+  position-of k i l e = position-sum order i ∙ sum-where N order o (length order) (omega arith) suc k i l e
 
   changeover-of : (k i j : ℕ) → suc k < length order → orderAt order k ≡ i → orderAt order (suc k) ≡ j → changeoverIn order i j ≡ 1
-  unfolding changeoverIn
   changeover-of k i j l e f =
-      sum-where N order o (length order - 1) (omega arith) (λ v. is (orderAt order (suc v)) j) k i (omega arith) e
+      changeover-sum order i j
+      ∙ sum-where N order o (length order - 1) (omega arith) (λ v. is (orderAt order (suc v)) j) k i (omega arith) e
       ∙ is-same (orderAt order (suc k)) j f
 
   -- ---- what each table says
@@ -140,32 +207,6 @@ module _ (N : ℕ) (order : List ℕ) (o : OrderFacts N order) where
       sum-ext N (assignedIn order) (λ i. sumBelow (length order) (λ k. is (orderAt order k) i * 1)) (λ i l. assigned-sum order i)
       ∙ (sum-all-is N (length order) (orderAt order) (λ k. 1) (o .below) ∙ omega (arith, sum-const (length order) 1))
 
-  length-suc : suc (length order - 1) ≡ length order
-  length-suc = omega (arith, o .some)
-
-  into : (j : ℕ) → sumBelow N (λ i. changeoverIn order i j) + firstIn order j ≡ assignedIn order j
-  unfolding assignedIn firstIn changeoverIn
-  into j =
-      omega (
-        arith,
-        sum-all-is N (length order - 1) (orderAt order) (λ k. is (orderAt order (suc k)) j) (λ k l. o .below k (omega arith)),
-        sum-first (length order - 1) (λ k. is (orderAt order k) j),
-        ap (λ (n : ℕ). sumBelow n (λ k. is (orderAt order k) j)) length-suc,
-      )
-
-  out : (i : ℕ) → sumBelow N (λ j. changeoverIn order i j) + lastIn order i ≡ assignedIn order i
-  unfolding assignedIn lastIn changeoverIn
-  out i =
-      omega (
-        arith,
-        sum-ext N (λ j. sumBelow (length order - 1) (λ k. is (orderAt order k) i * is (orderAt order (suc k)) j))
-            (λ j. sumBelow (length order - 1) (λ k. is (orderAt order (suc k)) j * is (orderAt order k) i))
-            (λ j l. sum-ext (length order - 1) (λ k. is (orderAt order k) i * is (orderAt order (suc k)) j)
-            (λ k. is (orderAt order (suc k)) j * is (orderAt order k) i) (λ k m. omega arith)),
-        sum-all-is N (length order - 1) (λ k. orderAt order (suc k)) (λ k. is (orderAt order k) i) (λ k l. o .below (suc k) (omega arith)),
-        ap (λ (n : ℕ). sumBelow n (λ k. is (orderAt order k) i)) length-suc,
-      )
-
   absent : (i : ℕ) → assignedIn order i ≡ 0 → positionIn order i ≡ 0
   absent i h = elim (ℕ-discrete (positionIn order i) 0) [
     | yes e ↦ e
@@ -193,19 +234,19 @@ module _ (N : ℕ) (order : List ℕ) (o : OrderFacts N order) where
       omega (arith, position-of (r .0) i (omega (arith, r .1)) (r .2), position-of (suc (r .0)) j (r .1) (r .3))
 
   pub order-week-facts : WeekFacts N (orderTables order)
-  unfolding firstIn lastIn
   order-week-facts =
       record {
         assigned-bit = λ i l. assigned-bit i;
-        first-bit = λ i l. is-le (orderAt order 0) i;
-        last-bit = λ i l. is-le (orderAt order (length order - 1)) i;
         changeover-bit = λ i l j m. bit-le-one (changeoverIn order i j) (λ h. changeover-means i j .1 (changeover-index order i j h));
-        one-first = sum-is N (orderAt order 0) (o .below 0 (o .some));
-        one-last = sum-is N (orderAt order (length order - 1)) (o .below (length order - 1) (omega (arith, length-suc)));
-        into = λ j l. into j;
-        out = λ i l. out i;
+        one-first = one-first order (o .below);
+        into = λ j l. into N order (o .below) j;
+        out = λ i l. out N order (o .below) i;
         absent = λ i l. absent i;
         low = λ i l. low i;
         high = λ i l. omega (arith, high i, order-count);
         rises = λ i l j m. rises i j;
       }
+    where
+      one-first : (ps : List ℕ) → ProductsBelow N ps → sumBelow N (firstIn ps) ≤ 1
+      one-first [] b = omega (arith, sum-zero N (λ i. 0) (λ i l. refl))
+      one-first (p ∷ ps) b = omega (arith, sum-is N p (b 0 (omega arith)))

@@ -1,23 +1,25 @@
 -- The order theorem of one week: tables meet the rules 31, 32 and 34 exactly where they are the tables of an order, a list of products
 -- below N with none twice; the order is unique, and is computed from E and O. Assumes nothing.
-use Prim.Native.Nat.{ℕ, zero, suc, _<_}
+use Prim.Native.Nat.{ℕ, zero, suc, _<_, _≤_}
 use mathlib.Core.Path.{_≡_, refl, sym, ap, _∙_}
 use mathlib.Core.Logic.{_↔_}
-use mathlib.Core.Bool.{true}
-use mathlib.Core.List.{List}
+use mathlib.Core.Bool.{Bool, true, false, _||_, or-true}
+use mathlib.Core.List.{List, []}
 use native.Mathlib.Omega.{arith}
 use native.Mathlib.Decide.{ℕ-discrete}
 use lib.ListN.{length}
 use lib.Seq.{ext-getD}
 use lib.Dec.{eqb}
 use borrow.Author.Tests.{eqb-true, eq-eqb}
-use Rattle.mathematics.specs.Week.{WeekTables, count, Meets}
-use Rattle.mathematics.specs.Order.{orderAt, isOrder, positionIn, orderTables, productAt, orderOf, Agree}
-use Rattle.mathematics.proofs.Below.{sum-ext, first-below}
+use Rattle.mathematics.specs.Below.{sumBelow, listBelow}
+use Rattle.mathematics.specs.Week.{WeekTables, count, binary, rule31, shut, rule32, rule34, Meets}
+use Rattle.mathematics.specs.Order.{orderAt, isOrder, firstIn, positionIn, orderTables, productAt, orderOf, Agree}
+use Rattle.mathematics.proofs.Below.{sum-ext, sum-zero, term-le-sum, first-below}
 use Rattle.mathematics.proofs.Sums.{length-list, getD-list}
-use Rattle.mathematics.proofs.WeekRules.{WeekFacts, week-facts, facts-meet, facts-agree}
-use Rattle.mathematics.proofs.WeekPositions.{changeovers, position-some, position-only, agree-by-position}
-use Rattle.mathematics.proofs.OrderTables.{OrderFacts, order-facts, facts-order, position-index, position-means, order-count, order-week-facts}
+use Rattle.mathematics.proofs.WeekRules.{WeekFacts, all-into, facts31, facts-of, meets-first, week-facts, shut-facts, facts-shut, holds31, holds32, holds34}
+use Rattle.mathematics.proofs.WeekRules.{facts-binary, facts-meet, facts-agree}
+use Rattle.mathematics.proofs.WeekPositions.{some-first, position-some, position-only, agree-by-position}
+use Rattle.mathematics.proofs.OrderTables.{OrderFacts, order-facts, facts-order, position-index, position-means, order-count, sum-first-in, order-week-facts}
 
 -- n is the length of the order that the tables show
 pub order-length : (N : ℕ) (x : WeekTables) → length (orderOf N x) ≡ count N x
@@ -44,7 +46,6 @@ module _ (N : ℕ) (x : WeekTables) (w : WeekFacts N x) where
   shown-facts : OrderFacts N (orderOf N x)
   shown-facts =
       record {
-        some = omega (arith, order-length N x, changeovers N x w);
         below = λ k l. order-position k l .0;
         distinct = λ k l m s e. omega (arith, order-position k m .1, order-position l s .1, ap (x .position) e);
       }
@@ -72,6 +73,10 @@ module _ (N : ℕ) (x : WeekTables) (m : Meets N x) where
   pub shown-order : isOrder N (orderOf N x) ≡ true
   shown-order = facts-order N (orderOf N x) (shown-facts N x (week-facts N x m))
 
+  pub shown-some : 0 < length (orderOf N x)
+  shown-some =
+      omega (arith, order-length N x, all-into (week-facts N x m), meets-first N x m)
+
   pub shown-tables : Agree N x (orderTables (orderOf N x))
   shown-tables = shown-agree N x (week-facts N x m)
 
@@ -80,14 +85,62 @@ module _ (N : ℕ) (x : WeekTables) (m : Meets N x) where
       → (orderAt (orderOf N x) k ≡ productAt N x k) × (productAt N x k < N) × (x .position (productAt N x k) ≡ suc k)
   product-at k l = let r = product-position N x (week-facts N x m) k l in (order-product N x k l, r .0, r .1)
 
--- tables that agree with an order's meet the rules
-pub order-meets : (N : ℕ) (x : WeekTables) (order : List ℕ) → isOrder N order ≡ true → Agree N x (orderTables order) → Meets N x
-order-meets N x order h a =
-    facts-meet N x (facts-agree N x (orderTables order) a (order-week-facts N order (order-facts N order h)))
+-- tables that agree with an order's have the facts of a week, and meet the rules where the order has a product
+pub order-agree : (N : ℕ) (x : WeekTables) (order : List ℕ) → isOrder N order ≡ true → Agree N x (orderTables order) → WeekFacts N x
+order-agree N x order h a = facts-agree N x (orderTables order) a (order-week-facts N order (order-facts N order h))
+
+pub order-meets : (N : ℕ) (x : WeekTables) (order : List ℕ) → isOrder N order ≡ true → 0 < length order → Agree N x (orderTables order) → Meets N x
+order-meets N x order h some a =
+    facts-meet N x (order-agree N x order h a)
+    (sum-ext N (x .first) (firstIn order) (a .first) ∙ sum-first-in N order (order-facts N order h .below) some)
 
 -- the order theorem
-pub order-theorem : (N : ℕ) (x : WeekTables) → Meets N x ↔ ((order : List ℕ) × (isOrder N order ≡ true) × Agree N x (orderTables order))
-order-theorem N x = (λ m. (orderOf N x, shown-order N x m, shown-tables N x m), λ r. order-meets N x (r .0) (r .1) (r .2))
+pub order-theorem : (N : ℕ) (x : WeekTables)
+    → Meets N x ↔ ((order : List ℕ) × (isOrder N order ≡ true) × (0 < length order) × Agree N x (orderTables order))
+order-theorem N x = (
+  λ m. (orderOf N x, shown-order N x m, shown-some N x m, shown-tables N x m),
+  λ r. order-meets N x (r .0) (r .1) (r .2) (r .3),
+)
+
+-- the same with weeks of no product
+module _ (N : ℕ) (x : WeekTables) where
+  abbrev pub MeetsOrShut : Type 0
+  MeetsOrShut = (binary N x ≡ true) × (rule31 N x || shut N x ≡ true) × (rule32 N x ≡ true) × (rule34 N x ≡ true)
+
+  open-or-shut : WeekFacts N x → rule31 N x || shut N x ≡ true
+  open-or-shut w = elim (ℕ-discrete (count N x) 0) [
+    | yes e ↦ rw (facts-shut N x (λ i l.
+        let none : x .assigned i ≡ 0 = omega (arith, term-le-sum N (x .assigned) i l) in
+        (none, omega (arith, w .into i l), omega (arith, w .out i l)))) (or-true (rule31 N x))
+    | no d ↦ rw (holds31 N x w (some-first N x w (omega arith)))
+  ]
+
+  few-first : rule31 N x || shut N x ≡ true → sumBelow N (x .first) ≤ 1
+  few-first h = go (rule31 N x) refl h
+    where
+      go : (t : Bool) → rule31 N x ≡ t → t || shut N x ≡ true → sumBelow N (x .first) ≤ 1
+      go true q k = omega (arith, facts31 N x q .0 .0)
+      go false q k = omega (arith, sum-zero N (x .first) (λ i l. shut-facts N x k i l .1))
+
+  pub shut-or-order : MeetsOrShut ↔ ((order : List ℕ) × (isOrder N order ≡ true) × Agree N x (orderTables order))
+  shut-or-order = (
+    λ m.
+        let w = facts-of N x (m .0) (few-first (m .1)) (m .2) (m .3) in
+        (orderOf N x, facts-order N (orderOf N x) (shown-facts N x w), shown-agree N x w),
+    λ r.
+        let w = order-agree N x (r .0) (r .1) (r .2) in
+        (facts-binary N x w, open-or-shut w, holds32 N x w, holds34 N x w),
+  )
+
+  -- a shut week has the tables of no product
+  empty-order : count N x ≡ 0 → orderOf N x ≡ []
+  unfolding orderOf
+  empty-order e = ap (λ (n : ℕ). listBelow n (productAt N x)) e
+
+  pub shut-tables : binary N x ≡ true → shut N x ≡ true → rule32 N x ≡ true → rule34 N x ≡ true → Agree N x (orderTables [])
+  shut-tables bits none into rising =
+      let w = facts-of N x bits (few-first (rw none (or-true (rule31 N x)))) into rising in
+      rw (empty-order (sum-zero N (x .assigned) (λ i l. shut-facts N x none i l .0))) at (shown-agree N x w)
 
 -- two orders with the same positions are equal
 pub uniqueness : (N : ℕ) (a b : List ℕ) → isOrder N a ≡ true → isOrder N b ≡ true
@@ -113,8 +166,9 @@ agree-refl N x =
 -- the order computed from tables that agree with an order's is that order
 pub order-shown : (N : ℕ) (x : WeekTables) (order : List ℕ) → isOrder N order ≡ true → Agree N x (orderTables order) → orderOf N x ≡ order
 order-shown N x order h a =
-    let m = order-meets N x order h a in
-    uniqueness N (orderOf N x) order (shown-order N x m) h (λ i l. sym (shown-tables N x m .position i l) ∙ a .position i l)
+    let w = order-agree N x order h a in
+    uniqueness N (orderOf N x) order (facts-order N (orderOf N x) (shown-facts N x w)) h
+    (λ i l. sym (shown-agree N x w .position i l) ∙ a .position i l)
 
 -- an order is computed back from its own tables
 pub order-back : (N : ℕ) (order : List ℕ) → isOrder N order ≡ true → orderOf N (orderTables order) ≡ order

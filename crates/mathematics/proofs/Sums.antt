@@ -1,6 +1,6 @@
 -- More laws of sums, tests and lists over the numbers below a bound. Assumes nothing.
-use Prim.Native.Nat.{ℕ, zero, suc, _+_, _*_, _<_, _≤_}
-use mathlib.Core.Path.{_≡_, refl, sym, ap, _∙_}
+use Prim.Native.Nat.{ℕ, zero, _+_, _*_, _<_, _≤_}
+use mathlib.Core.Path.{_≡_, sym, ap, _∙_}
 use mathlib.Core.Logic.{_↔_}
 use mathlib.Core.Bool.{true}
 use native.Mathlib.Omega.{arith}
@@ -23,6 +23,9 @@ bit-zero a b h = elim (ℕ-discrete a 1) [ yes e ↦ absurd (h e) | no d ↦ ome
 -- a number that is 1 where it is not 0
 pub bit-le-one : (a : ℕ) → (1 ≤ a → a ≡ 1) → a ≤ 1
 bit-le-one a h = elim (ℕ-discrete a 0) [ yes e ↦ omega arith | no d ↦ omega (arith, h (omega arith)) ]
+
+pub bit-part : (a n : ℕ) → a ≤ 1 → a * n ≤ n
+bit-part a n b = elim (ℕ-discrete a 0) [ yes e ↦ rw e (omega arith) | no d ↦ (let e : a ≡ 1 = omega arith in rw e (omega arith)) ]
 
 -- two of them that say the same
 pub bit-same : {a b : ℕ} {P : Type 0} → a ≤ 1 → b ≤ 1 → (a ≡ 1 ↔ P) → (b ≡ 1 ↔ P) → a ≡ b

@@ -6,24 +6,14 @@ use native.Mathlib.Omega.{arith}
 use Rattle.mathematics.specs.Below.{sumBelow}
 use Rattle.mathematics.specs.Week.{WeekTables, count}
 use Rattle.mathematics.specs.Order.{Agree}
-use Rattle.mathematics.proofs.Below.{sum-ext, sum-mono, sum-add, sum-mul, sum-swap, sum-tight, term-le-sum, sum-unique}
-use Rattle.mathematics.proofs.Sums.{bit-one, bit-zero, bit-same, marked-le, marked-tight, some-marked, weighted-columns}
-use Rattle.mathematics.proofs.WeekRules.{WeekFacts}
+use Rattle.mathematics.proofs.Below.{sum-ext, sum-mono, sum-add, sum-mul, sum-swap, sum-tight, term-le-sum, sum-unique, mul-both}
+use Rattle.mathematics.proofs.Sums.{bit-one, bit-zero, bit-part, bit-same, marked-le, marked-tight, some-marked, weighted-columns}
+use Rattle.mathematics.proofs.WeekRules.{WeekFacts, first-bit, last-bit, all-into, one-last}
 
 module _ (N : ℕ) (x : WeekTables) (w : WeekFacts N x) where
   -- ---- each changeover leads from a position to the next
   -- The rises along all changeovers add up to the last position less the first, which is at most n - 1; there are n - 1 changeovers, and
-  -- each rises by 1 at least. So each rises by 1, the first position is 1 and the last is n.
-
-  -- one changeover less than products
-  pub changeovers : sumBelow N (λ j. sumBelow N (λ i. x .changeover i j)) + 1 ≡ count N x
-  changeovers =
-      omega (
-        arith,
-        sum-ext N (λ j. sumBelow N (λ i. x .changeover i j) + x .first j) (x .assigned) (w .into),
-        sum-add N (λ j. sumBelow N (λ i. x .changeover i j)) (x .first),
-        w .one-first,
-      )
+  -- each rises by 1 at least. So each rises by 1, the first position is 1 and the last is n. (With no first product n is 0.)
 
   -- all positions are those that a changeover leads to and the first, and also those that one leads from and the last
   to-positions : sumBelow N (λ j. sumBelow N (λ i. x .changeover i j * x .position j)) + sumBelow N (λ j. x .first j * x .position j)
@@ -62,33 +52,33 @@ module _ (N : ℕ) (x : WeekTables) (w : WeekFacts N x) where
       sum-mono N (λ j. sumBelow N (λ i. x .changeover i j * (x .position i + 1)))
       (λ j. sumBelow N (λ i. x .changeover i j * x .position j)) column-rises
 
-  first-sum : sumBelow N (λ j. x .first j * 1) ≡ 1
-  first-sum = omega (arith, sum-mul N (x .first) 1, w .one-first)
+  first-sum : sumBelow N (λ j. x .first j * 1) ≡ sumBelow N (x .first)
+  first-sum = omega (arith, sum-mul N (x .first) 1)
 
   first-bound : sumBelow N (λ j. x .first j * 1) ≤ sumBelow N (λ j. x .first j * x .position j)
-  first-bound = marked-le N (x .first) (λ j. 1) (x .position) (w .first-bit) first-low
+  first-bound = marked-le N (x .first) (λ j. 1) (x .position) (first-bit w) first-low
 
-  last-sum : sumBelow N (λ i. x .last i * count N x) ≡ count N x
-  last-sum = omega (arith, sum-mul N (x .last) (count N x), ap (λ (s : ℕ). s * count N x) (w .one-last))
+  last-sum : sumBelow N (λ i. x .last i * count N x) ≤ count N x
+  last-sum = omega (arith, sum-mul N (x .last) (count N x), bit-part (sumBelow N (x .last)) (count N x) (omega (arith, one-last w, w .one-first)))
 
   last-bound : sumBelow N (λ i. x .last i * x .position i) ≤ sumBelow N (λ i. x .last i * count N x)
-  last-bound = marked-le N (x .last) (x .position) (λ i. count N x) (w .last-bit) (λ i l e. w .high i l)
+  last-bound = marked-le N (x .last) (x .position) (λ i. count N x) (last-bit w) (λ i l e. w .high i l)
 
   -- so they are equal
   tight : (sumBelow N (λ j. x .first j * 1) ≡ sumBelow N (λ j. x .first j * x .position j))
       × (sumBelow N (λ i. x .last i * x .position i) ≡ sumBelow N (λ i. x .last i * count N x))
       × (sumBelow N (λ j. sumBelow N (λ i. x .changeover i j * (x .position i + 1)))
       ≡ sumBelow N (λ j. sumBelow N (λ i. x .changeover i j * x .position j)))
-  tight = omega (arith, changeovers, to-positions, from-positions, next-positions, rise, first-sum, first-bound, last-sum, last-bound)
+  tight = omega (arith, all-into w, to-positions, from-positions, next-positions, rise, first-sum, first-bound, last-sum, last-bound)
 
   -- and term by term
   first-position : (j : ℕ) → j < N → x .first j ≡ 1 → x .position j ≡ 1
   first-position j m e =
-      sym (marked-tight N (x .first) (λ k. 1) (x .position) (w .first-bit) first-low (tight .0) j m e)
+      sym (marked-tight N (x .first) (λ k. 1) (x .position) (first-bit w) first-low (tight .0) j m e)
 
   last-position : (i : ℕ) → i < N → x .last i ≡ 1 → x .position i ≡ count N x
   last-position i l e =
-      marked-tight N (x .last) (x .position) (λ k. count N x) (w .last-bit) (λ k m f. w .high k m) (tight .1) i l e
+      marked-tight N (x .last) (x .position) (λ k. count N x) (last-bit w) (λ k m f. w .high k m) (tight .1) i l e
 
   next-position : (i : ℕ) → i < N → (j : ℕ) → j < N → x .changeover i j ≡ 1 → x .position j ≡ suc (x .position i)
   next-position i l j m e =
@@ -119,30 +109,48 @@ module _ (N : ℕ) (x : WeekTables) (w : WeekFacts N x) where
   pub first-position-one : (i : ℕ) → i < N → x .first i ≡ 1 ↔ x .position i ≡ 1
   first-position-one i l = (
     first-position i l,
-    λ h. bit-one (x .first i) (w .first-bit i l) (λ e.
+    λ h. bit-one (x .first i) (first-bit w i l) (λ e.
         let r = before i l (omega arith) e in
         omega (arith, next-position (r .0) (r .1) i l (r .2), from-assigned (r .0) (r .1) i l (r .2))),
   )
 
-  pub last-position-count : (i : ℕ) → i < N → x .last i ≡ 1 ↔ x .position i ≡ count N x
+  pub last-position-count : (i : ℕ) → i < N → x .last i ≡ 1 ↔ ((1 ≤ x .position i) × (x .position i ≡ count N x))
   last-position-count i l = (
-    last-position i l,
-    λ h. bit-one (x .last i) (w .last-bit i l) (λ e.
-        let r = after i l (omega (arith, changeovers)) e in
-        omega (arith, next-position i l (r .0) (r .1) (r .2), w .high (r .0) (r .1))),
+    λ e. (omega (arith, w .out i l, w .low i l), last-position i l e),
+    λ h. bit-one (x .last i) (last-bit w i l) (λ e.
+        let r = after i l (h .0) e in
+        omega (arith, h .1, next-position i l (r .0) (r .1) (r .2), w .high (r .0) (r .1))),
   )
 
   -- a product before the last position has one at the next position after it
   follower : (i : ℕ) → i < N → 1 ≤ x .position i → x .position i < count N x
       → (j : ℕ) × (j < N) × (x .changeover i j ≡ 1) × (x .position j ≡ suc (x .position i))
   follower i l p h =
-      let r = after i l p (bit-zero (x .last i) (w .last-bit i l) (λ e. omega (arith, last-position i l e))) in
+      let r = after i l p (bit-zero (x .last i) (last-bit w i l) (λ e. omega (arith, last-position i l e))) in
       (r .0, r .1, r .2, next-position i l (r .0) (r .1) (r .2))
+
+  -- where there is a product, there is a first one
+  pub some-first : 1 ≤ count N x → sumBelow N (x .first) ≡ 1
+  some-first h =
+      let s : 1 ≤ sumBelow N (x .last) * count N x = omega (
+        arith,
+        sum-mul N (x .last) (count N x),
+        all-into w,
+        to-positions,
+        from-positions,
+        next-positions,
+        rise,
+        first-sum,
+        first-bound,
+        last-sum,
+        last-bound,
+      ) in
+      omega (arith, mul-both (sumBelow N (x .last)) (count N x) s .0, one-last w, w .one-first)
 
   -- each position has a product
   pub position-some : (k : ℕ) → k < count N x → (i : ℕ) × (i < N) × (x .position i ≡ suc k)
   position-some zero h =
-      let r = some-marked N (x .first) (w .first-bit) (omega (arith, w .one-first)) in
+      let r = some-marked N (x .first) (first-bit w) (omega (arith, some-first (omega arith))) in
       (r .0, r .1, first-position (r .0) (r .1) (r .2))
   position-some (suc k) h =
       let r = position-some k (omega arith) in
@@ -156,7 +164,7 @@ module _ (N : ℕ) (x : WeekTables) (w : WeekFacts N x) where
       (omega (arith, first-position-one i l .1 p)) (omega (arith, first-position-one j m .1 q))
   position-only (suc k) i j l m p q =
       let past : (v : ℕ) → v < N → x .position v ≡ suc (suc k) → x .first v ≡ 0 =
-      λ v n o. bit-zero (x .first v) (w .first-bit v n) (λ e. omega (arith, first-position v n e)) in
+      λ v n o. bit-zero (x .first v) (first-bit w v n) (λ e. omega (arith, first-position v n e)) in
       let a = before i l (omega arith) (past i l p) in
       let b = before j m (omega arith) (past j m q) in
       let same = position-only k (a .0) (b .0) (a .1) (b .1)
@@ -184,11 +192,11 @@ agree-by-position N x y v w h = record { assigned = assigned; first = first; las
 
     first : (i : ℕ) → i < N → x .first i ≡ y .first i
     first i l =
-        bit-same (v .first-bit i l) (w .first-bit i l) (first-position-one N x v i l) (rw (h i l) (first-position-one N y w i l))
+        bit-same (first-bit v i l) (first-bit w i l) (first-position-one N x v i l) (rw (h i l) (first-position-one N y w i l))
 
     last : (i : ℕ) → i < N → x .last i ≡ y .last i
     last i l =
-        bit-same (v .last-bit i l) (w .last-bit i l) (last-position-count N x v i l)
+        bit-same (last-bit v i l) (last-bit w i l) (last-position-count N x v i l)
         (rw (h i l, sum-ext N (x .assigned) (y .assigned) assigned) (last-position-count N y w i l))
 
     changeover : (i : ℕ) → i < N → (j : ℕ) → j < N → x .changeover i j ≡ y .changeover i j

@@ -1,31 +1,51 @@
 -- What the rules 31, 32 and 34 say of a week's tables, as facts about numbers, both ways. Assumes nothing.
 use Prim.Native.Nat.{ℕ, _+_, _<_, _≤_}
-use mathlib.Core.Path.{_≡_, refl, _∙_}
+use mathlib.Core.Path.{_≡_, refl, sym, _∙_}
 use mathlib.Core.Bool.{Bool, true, false, cond}
 use native.Mathlib.Omega.{arith}
 use native.Mathlib.Decide.{ℕ-discrete}
 use lib.Dec.{eqb, leb}
 use borrow.Author.Tests.{eqb-true, eqb-false, leb-true, eq-eqb, ne-eqb, le-leb}
 use Rattle.mathematics.specs.Below.{sumBelow, allBelow, implies, within}
-use Rattle.mathematics.specs.Week.{WeekTables, count, binary, markedOnce, rule31, rule32, rule34, Meets}
+use Rattle.mathematics.specs.Week.{WeekTables, count, binary, markedOnce, rule31, shut, rule32, rule34, Meets}
 use Rattle.mathematics.specs.Order.{Agree}
-use Rattle.mathematics.proofs.Below.{sum-ext, all-each, each-all}
+use Rattle.mathematics.proofs.Below.{sum-ext, sum-add, sum-swap, all-each, each-all}
 use Rattle.mathematics.proofs.Below.{and-both, and-three, and-four, both-and, implies-at, at-implies, within-at, at-within}
 use Rattle.mathematics.proofs.Sums.{bit-zero, all-equal, equal-all}
 
+-- a week with at most one first product: of an order, or of no product
 pub record WeekFacts (N : ℕ) (x : WeekTables) : Type 0 where
   pub assigned-bit : (i : ℕ) → i < N → x .assigned i ≤ 1
-  pub first-bit : (i : ℕ) → i < N → x .first i ≤ 1
-  pub last-bit : (i : ℕ) → i < N → x .last i ≤ 1
   pub changeover-bit : (i : ℕ) → i < N → (j : ℕ) → j < N → x .changeover i j ≤ 1
-  pub one-first : sumBelow N (x .first) ≡ 1
-  pub one-last : sumBelow N (x .last) ≡ 1
+  pub one-first : sumBelow N (x .first) ≤ 1
   pub into : (j : ℕ) → j < N → sumBelow N (λ i. x .changeover i j) + x .first j ≡ x .assigned j
   pub out : (i : ℕ) → i < N → sumBelow N (λ j. x .changeover i j) + x .last i ≡ x .assigned i
   pub absent : (i : ℕ) → i < N → x .assigned i ≡ 0 → x .position i ≡ 0
   pub low : (i : ℕ) → i < N → x .assigned i ≤ x .position i
   pub high : (i : ℕ) → i < N → x .position i ≤ count N x
   pub rises : (i : ℕ) → i < N → (j : ℕ) → j < N → x .changeover i j ≡ 1 → x .position i + 1 ≤ x .position j
+
+module _ {N : ℕ} {x : WeekTables} (w : WeekFacts N x) where
+  pub first-bit : (i : ℕ) → i < N → x .first i ≤ 1
+  first-bit i l = omega (arith, w .into i l, w .assigned-bit i l)
+
+  pub last-bit : (i : ℕ) → i < N → x .last i ≤ 1
+  last-bit i l = omega (arith, w .out i l, w .assigned-bit i l)
+
+  -- the changeovers and the first product, or the last, are all products
+  pub all-into : sumBelow N (λ j. sumBelow N (λ i. x .changeover i j)) + sumBelow N (x .first) ≡ count N x
+  all-into =
+      sym (sum-add N (λ j. sumBelow N (λ i. x .changeover i j)) (x .first))
+      ∙ sum-ext N (λ j. sumBelow N (λ i. x .changeover i j) + x .first j) (x .assigned) (w .into)
+
+  all-out : sumBelow N (λ i. sumBelow N (λ j. x .changeover i j)) + sumBelow N (x .last) ≡ count N x
+  all-out =
+      sym (sum-add N (λ i. sumBelow N (λ j. x .changeover i j)) (x .last))
+      ∙ sum-ext N (λ i. sumBelow N (λ j. x .changeover i j) + x .last i) (x .assigned) (w .out)
+
+  -- as many last products as first ones
+  pub one-last : sumBelow N (x .last) ≡ sumBelow N (x .first)
+  one-last = omega (arith, all-into, all-out, sum-swap N N (λ i j. x .changeover i j))
 
 -- ---- the parts of the rules, over any table
 -- one mark, on a product that is assigned
@@ -121,21 +141,18 @@ module _ (N : ℕ) (x : WeekTables) where
   pub no-ring : rule34 N x ≡ true → (i : ℕ) → i < N → (j : ℕ) → j < N → x .changeover i j ≡ 1 → x .changeover j i ≡ 1 → ⊥
   no-ring h i l j m e f = let r = facts34 h .1 in omega (arith, r i l j m e, r j m i l f)
 
-  pub week-facts : Meets N x → WeekFacts N x
-  week-facts m =
-      let b = binary-at (m .is-binary) in
-      let f = facts31 (m .meets31) in
-      let z = facts32 (m .meets32) in
-      let o = facts34 (m .meets34) in
+  -- the facts, with at most one first product
+  pub facts-of : binary N x ≡ true → sumBelow N (x .first) ≤ 1 → rule32 N x ≡ true → rule34 N x ≡ true → WeekFacts N x
+  facts-of bits few h32 h34 =
+      let b = binary-at bits in
+      let z = facts32 h32 in
+      let o = facts34 h34 in
       let at : (i : ℕ) → i < N → (x .assigned i ≡ 0 → x .position i ≡ 0) × (x .assigned i ≤ x .position i) × (x .position i ≤ count N x) =
       λ i l. position-at (x .assigned i) (x .position i) (count N x) (o .0 i l) (b i l .0) in
       record {
         assigned-bit = λ i l. b i l .0;
-        first-bit = λ i l. b i l .1;
-        last-bit = λ i l. b i l .2;
         changeover-bit = λ i l. b i l .3;
-        one-first = f .0 .0;
-        one-last = f .1 .0;
+        one-first = few;
         into = z .0;
         out = z .1;
         absent = λ i l. at i l .0;
@@ -144,16 +161,37 @@ module _ (N : ℕ) (x : WeekTables) where
         rises = o .1;
       }
 
+  -- there is one first product
+  pub meets-first : Meets N x → sumBelow N (x .first) ≡ 1
+  meets-first m = facts31 (m .meets31) .0 .0
+
+  pub week-facts : Meets N x → WeekFacts N x
+  week-facts m = facts-of (m .is-binary) (omega (arith, meets-first m)) (m .meets32) (m .meets34)
+
+  -- no product, no first one
+  pub shut-facts : shut N x ≡ true
+      → (i : ℕ) → i < N → (x .assigned i ≡ 0) × (x .first i ≡ 0) × (x .last i ≡ 0)
+  unfolding shut
+  shut-facts h i l =
+      let r = and-three (eqb (x .assigned i) 0) (eqb (x .first i) 0) (eqb (x .last i) 0) (all-each N _ h i l) in
+      (eqb-true (x .assigned i) 0 (r .0), eqb-true (x .first i) 0 (r .1), eqb-true (x .last i) 0 (r .2))
+
+  pub facts-shut : ((i : ℕ) → i < N → (x .assigned i ≡ 0) × (x .first i ≡ 0) × (x .last i ≡ 0)) → shut N x ≡ true
+  unfolding shut
+  facts-shut h =
+      each-all N _ (λ i l. both-and _ _ (both-and _ _ (eq-eqb (x .assigned i) 0 (h i l .0)) (eq-eqb (x .first i) 0 (h i l .1)))
+      (eq-eqb (x .last i) 0 (h i l .2)))
+
   -- ---- from the facts to the tests
   module _ (w : WeekFacts N x) where
-    holds31 : rule31 N x ≡ true
+    pub holds31 : sumBelow N (x .first) ≡ 1 → rule31 N x ≡ true
     unfolding rule31
-    holds31 =
+    holds31 e =
         both-and _ _
-        (facts-once N (x .first) (x .assigned) (w .one-first, λ i l e. omega (arith, w .into i l, w .assigned-bit i l)))
-        (facts-once N (x .last) (x .assigned) (w .one-last, λ i l e. omega (arith, w .out i l, w .assigned-bit i l)))
+        (facts-once N (x .first) (x .assigned) (e, λ i l e. omega (arith, w .into i l, w .assigned-bit i l)))
+        (facts-once N (x .last) (x .assigned) (one-last w ∙ e, λ i l e. omega (arith, w .out i l, w .assigned-bit i l)))
 
-    holds32 : rule32 N x ≡ true
+    pub holds32 : rule32 N x ≡ true
     unfolding rule32
     holds32 =
         both-and _ _ (both-and _ _
@@ -162,7 +200,7 @@ module _ (N : ℕ) (x : WeekTables) where
         (equal-all N (λ j. sumBelow N (λ i. x .changeover i j) + x .first j) (x .assigned) (w .into)))
         (equal-all N (λ i. sumBelow N (λ j. x .changeover i j) + x .last i) (x .assigned) (w .out))
 
-    holds34 : rule34 N x ≡ true
+    pub holds34 : rule34 N x ≡ true
     unfolding rule34
     holds34 =
         both-and _ _
@@ -170,11 +208,15 @@ module _ (N : ℕ) (x : WeekTables) where
         (each-all N _ (λ i l. each-all N _ (λ j m. at-implies (eqb (x .changeover i j) 1) _
         (λ e. le-leb (x .position i + 1) (x .position j) (w .rises i l j m (eqb-true (x .changeover i j) 1 e))))))
 
-    pub facts-meet : Meets N x
-    facts-meet =
+    pub facts-binary : binary N x ≡ true
+    facts-binary = at-binary (λ i l. (w .assigned-bit i l, first-bit w i l, last-bit w i l, w .changeover-bit i l))
+
+    -- with a first product
+    pub facts-meet : sumBelow N (x .first) ≡ 1 → Meets N x
+    facts-meet e =
         record {
-          is-binary = at-binary (λ i l. (w .assigned-bit i l, w .first-bit i l, w .last-bit i l, w .changeover-bit i l));
-          meets31 = holds31;
+          is-binary = facts-binary;
+          meets31 = holds31 e;
           meets32 = holds32;
           meets34 = holds34;
         }
@@ -184,11 +226,8 @@ pub facts-agree : (N : ℕ) (x y : WeekTables) → Agree N x y → WeekFacts N y
 facts-agree N x y a w =
     record {
       assigned-bit = λ i l. omega (arith, a .assigned i l, w .assigned-bit i l);
-      first-bit = λ i l. omega (arith, a .first i l, w .first-bit i l);
-      last-bit = λ i l. omega (arith, a .last i l, w .last-bit i l);
       changeover-bit = λ i l j m. omega (arith, a .changeover i l j m, w .changeover-bit i l j m);
-      one-first = sum-ext N (x .first) (y .first) (a .first) ∙ w .one-first;
-      one-last = sum-ext N (x .last) (y .last) (a .last) ∙ w .one-last;
+      one-first = omega (arith, sum-ext N (x .first) (y .first) (a .first), w .one-first);
       into = λ j l. omega (
         arith,
         sum-ext N (λ i. x .changeover i j) (λ i. y .changeover i j) (λ i m. a .changeover i m j l),

@@ -36,6 +36,10 @@ markedOnce N mark assigned = eqb (sumBelow N mark) 1 && allBelow N (λ i. implie
 unfoldable pub rule31 : ℕ → WeekTables → Bool
 rule31 N x = markedOnce N (x .first) (x .assigned) && markedOnce N (x .last) (x .assigned)
 
+-- a week of no product: "none of E, F and L"
+unfoldable pub shut : ℕ → WeekTables → Bool
+shut N x = allBelow N (λ i. eqb (x .assigned i) 0 && eqb (x .first i) 0 && eqb (x .last i) 0)
+
 -- 32: "Z's diagonal is 0; into j the sum of Z is E − F of j; out of i it is E − L of i". Equations (6) and (7), whose sums pass
 -- over the diagonal. F and L are added on the other side, since a difference of naturals is cut off at 0
 unfoldable pub rule32 : ℕ → WeekTables → Bool

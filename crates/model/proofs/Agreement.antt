@@ -8,23 +8,24 @@ use Rattle.mathematics.proofs.OrderTheorem.{uniqueness}
 use Rattle.plant_file.specs.Plant.{Plant}
 use Rattle.plant_file.specs.Ranges.{PlantRanges}
 use Rattle.plan_file.specs.Plan.{Plan, LinePlanFits}
-use Rattle.slot_file.specs.Slots.{Slots, SameSlots}
+use Rattle.slot_file.specs.Slots.{orderOfSlots, Slots, SameSlots}
+use Rattle.slot_file.proofs.Orders.{order-below}
 use Rattle.units.specs.declared.Profit.{Profit}
 use Rattle.machine.specs.declared.State.{State}
 use Rattle.machine.specs.Run.{after}
 use Rattle.rules.specs.declared.Verdict.the-variants.{Passed}
 use Rattle.rules.specs.Verdict.{verdictOf}
-use Rattle.model.specs.RunTables.{orderOfSlots, lineTables, runTables}
+use Rattle.model.specs.RunTables.{lineTables, runTables}
 use Rattle.model.specs.Model.{Binary}
 use Rattle.model.specs.Match.{shapeOfPlant, Gives, slotsShown}
 use Rattle.model.proofs.RuleFacts.{verdict-rules, rules-verdict}
 use Rattle.model.proofs.RunRules.{run-once}
 use Rattle.model.proofs.PlanRuns.{shown-gives}
-use Rattle.model.proofs.GivenPlans.{formed, clear, is-order, plan-agree, given-profit, given-rules, given-binary, same-slots}
+use Rattle.model.proofs.GivenPlans.{continued, is-order, plan-agree, given-profit, given-rules, given-binary, same-slots}
 
 -- a plan that passes: the slots that it shows run without a stop and give it
 pub passing-runs : {P : Plant} → PlantRanges P → {x : Plan} {q : Profit} → Binary P x → verdictOf P x ≡ Passed q
-    → Gives P (slotsShown P x) (after P (slotsShown P x) (P .weeks)) x × (x .profit ≡ q .0)
+    → Gives P (slotsShown (P .products) x) (after P (slotsShown (P .products) x) (P .weeks)) x × (x .profit ≡ q .0)
 passing-runs {P} R {x} {q} b e =
     let r = verdict-rules P x q e in
     (shown-gives P x b (r .0) R, r .1)
@@ -46,21 +47,21 @@ one-slots {P} R {S} {T} g h =
       week = λ w l. same-slots (P .products) (S .line .week w) (T .line .week w)
           (uniqueness (P .products) (orderOfSlots (S .line .week w)) (orderOfSlots (T .line .week w)) (is-order R g w l) (is-order R h w l)
           (λ i k. sym (plan-agree R g w l .position i k) ∙ plan-agree R h w l .position i k))
-          (formed R g w l .product)
-          (run-once P R S w (formed R g w l) (clear R g .0 w l))
+          (order-below (P .products) (S .line .week w) (g .formed w l))
+          (run-once P R S w (g .formed w l) (continued R g .0 w l))
           (λ i k. sym (g .same .line .minutes w i l k) ∙ h .same .line .minutes w i l k);
       sales = λ c i w j k l. sym (g .same .sales c i w j k l) ∙ h .same .sales c i w j k l;
     }
 
 -- and they are those that the plan shows
-pub shown-slots : {P : Plant} → PlantRanges P → {S : Slots} {s : State} {x : Plan} → Gives P S s x → SameSlots (shapeOfPlant P) (slotsShown P x) S
+pub shown-slots : {P : Plant} → PlantRanges P → {S : Slots} {s : State} {x : Plan} → Gives P S s x → SameSlots (shapeOfPlant P) (slotsShown (P .products) x) S
 shown-slots R g = one-slots R (passing-runs R (running-binary R g) (running-passes R g) .0) g
 
 -- a plan passes exactly where some slots give it
 pub agreement : {P : Plant} → PlantRanges P → {x : Plan} {q : Profit} → Binary P x
     → (verdictOf P x ≡ Passed q) ↔ ((S : Slots) × (s : State) × Gives P S s x × (x .profit ≡ q .0))
 agreement {P} R {x} {q} b = (
-  λ e. (let r = passing-runs R b e in (slotsShown P x, after P (slotsShown P x) (P .weeks), r .0, r .1)),
+  λ e. (let r = passing-runs R b e in (slotsShown (P .products) x, after P (slotsShown (P .products) x) (P .weeks), r .0, r .1)),
   λ r. rules-verdict P x (given-rules R (r .2)) ∙ ap (λ (z : ℤ). Passed (record { 0 = z })) (r .3),
 )
 

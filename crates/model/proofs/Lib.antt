@@ -2,7 +2,6 @@ pub mod States
 pub mod Grids
 pub mod Money
 pub mod Changeovers
-pub mod Orders
 pub mod RunStates
 pub mod Stops
 pub mod RuleFacts

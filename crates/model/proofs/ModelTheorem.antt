@@ -1,32 +1,36 @@
 -- The rules are the planning model of source 004: a plan of binary tables passes exactly where it meets the model's constraints and its
 -- profit is the model's objective. Assumes nothing.
 use Prim.Native.Nat.{ℕ, zero, suc, _+_, _*_, _-_, _<_, _≤_}
-use mathlib.Core.Path.{_≡_, sym, ap, _∙_}
+use mathlib.Core.Path.{_≡_, refl, sym, ap, _∙_}
 use mathlib.Core.Logic.{_↔_}
 use mathlib.Core.Bool.{true, cond}
 use native.Mathlib.Omega.{arith}
+use native.Mathlib.Nat.{mul-comm}
 use native.Mathlib.Decide.{ℕ-discrete}
 use lib.Dec.{eqb}
 use lib.IntN.{pos, _-ℤ_}
-use borrow.Author.Tests.{eq-eqb, ne-eqb}
+use borrow.Author.Tests.{eqb-true, eq-eqb, ne-eqb}
 use Rattle.mathematics.specs.Below.{sumBelow}
 use Rattle.mathematics.specs.Week.{Meets}
-use Rattle.mathematics.proofs.Below.{sum-ext, sum-zero, sum-add, sum-mul, sum-first, sum-swap, sum-mono, sum-const}
-use Rattle.mathematics.proofs.Sums.{bit-zero}
-use Rattle.mathematics.proofs.WeekRules.{WeekFacts, facts-meet}
+use Rattle.mathematics.proofs.Below.{sum-ext, sum-zero, sum-add, sum-mul, sum-first, sum-swap, sum-mono, sum-const, and-both, both-and}
+use Rattle.mathematics.proofs.Sums.{bit-zero, all-equal, equal-all}
+use Rattle.mathematics.proofs.WeekRules.{WeekFacts, one-last, facts-meet}
 use Rattle.plant_file.specs.Plant.{Plant}
 use Rattle.plant_file.specs.Ranges.{PlantRanges}
-use Rattle.plan_file.specs.Plan.{Plan}
+use Rattle.plan_file.specs.Plan.{LinePlan, Plan}
 use Rattle.units.specs.declared.Profit.{Profit}
 use Rattle.rules.specs.declared.Verdict.the-variants.{Passed}
-use Rattle.rules.specs.Rules.{weekOf, rule33, changeoverUnder, salesOf, changeoversOf, backlogOf, inventoryOf, profitOf}
+use Rattle.costs.specs.Changeover.{changeoverBetween}
+use Rattle.rules.specs.Rules.{weekOf, rule33, changeoversUnder, changeoversIn, revenueIn, changeoverChargeIn, backlogChargeIn, inventoryChargeIn, profitOf}
+use Rattle.rules.specs.Words.{words33}
+use Rattle.rules.proofs.Words.{words-33}
 use Rattle.rules.specs.Verdict.{verdictOf}
-use Rattle.model.specs.Model.{sumOthers, Binary, OrderModel, Model, objective}
-use Rattle.model.proofs.Grids.{sumGrid, grid-ext, grid-add}
+use Rattle.model.specs.Model.{sumOthers, Binary, OrderModel, BetweenModel, Model, objective}
+use Rattle.model.proofs.Grids.{sumGrid, grid-ext, all-grid, grid-all}
+use Rattle.model.proofs.Changeovers.{under-zero}
 use Rattle.model.proofs.Money.{lose-both}
-use Rattle.model.proofs.RuleFacts.{RulesHold, verdict-rules, rules-verdict, amounts-of, none-before, before-none}
-use Rattle.model.proofs.RuleFacts.{between-facts, facts-between, rules-hold, profit-of}
-use Rattle.model.proofs.PlanRuns.{plan-facts}
+use Rattle.model.proofs.RuleFacts.{RulesHold, verdict-rules, rules-verdict, rules-times, amounts-of, rules-hold, profit-of}
+use Rattle.model.proofs.PlanRuns.{plan-facts, plan-first}
 
 -- ---- sums
 -- where the term left out is 0
@@ -45,79 +49,67 @@ weeks-grid W n m f =
 
 -- ---- the objective
 module _ (P : Plant) (R : PlantRanges P) where
-  -- the cents under a table of marks, over n weeks
-  abbrev cents : ℕ → (ℕ → ℕ → ℕ → ℕ) → ℕ → ℕ → ℕ
-  cents n marks i j = sumBelow n (λ w. P .line .changeoverCents i j * marks w i j)
-
-  -- a product to itself takes none
-  cents-others : (n : ℕ) (marks : ℕ → ℕ → ℕ → ℕ)
-      → sumBelow (P .products) (λ i. sumOthers (P .products) i (cents n marks i)) ≡ sumGrid (P .products) (P .products) (cents n marks)
-  cents-others n marks =
-      sum-ext (P .products) (λ i. sumOthers (P .products) i (cents n marks i)) (λ i. sumBelow (P .products) (cents n marks i)) (λ i l.
-      others-all (P .products) i (cents n marks i) (λ k.
-      sum-zero n (λ w. P .line .changeoverCents i i * marks w i i) (λ w m. rw (R .line .cents-diagonal i l) (omega arith))))
+  -- the cents under marks of n weeks: a product to itself takes none
+  cents-under : (n : ℕ) (marks : ℕ → ℕ → ℕ → ℕ) → sumBelow n (λ w. changeoversUnder (P .products) (P .line .changeoverCents) (marks w))
+      ≡ sumBelow (P .products) (λ i. sumOthers (P .products) i (λ j. sumBelow n (λ w. P .line .changeoverCents i j * marks w i j)))
+  unfolding changeoversUnder changeoverBetween
+  cents-under n marks =
+      let N = P .products in
+      let c = P .line .changeoverCents in
+      let total : ℕ → ℕ → ℕ = λ i j. sumBelow n (λ w. c i j * marks w i j) in
+      sum-ext n (λ w. sumGrid N N (λ i j. marks w i j * c i j)) (λ w. sumGrid N N (λ i j. c i j * marks w i j))
+      (λ w l. grid-ext N N (λ i j. marks w i j * c i j) (λ i j. c i j * marks w i j) (λ i j _ _. mul-comm (marks w i j) (c i j)))
+      ∙ (weeks-grid n N N (λ i j w. c i j * marks w i j)
+      ∙ sym (sum-ext N (λ i. sumOthers N i (total i)) (λ i. sumBelow N (total i)) (λ i l.
+      others-all N i (total i) (λ k. sum-zero n (λ w. c i i * marks w i i) (λ w m. rw (R .line .cents-diagonal i l) (omega arith))))))
 
   module _ (x : Plan) (none : (i j : ℕ) → i < P .products → j < P .products → x .line .weekChangeover 0 i j ≡ 0) where
     -- over the weeks: changeovers within them, and between them from the second week on
-    cents-split : (i j : ℕ) → i < P .products → j < P .products
-        → cents (P .weeks) (λ w i j. x .line .changeover w i j + x .line .weekChangeover w i j) i j
-        ≡ cents (P .weeks) (x .line .changeover) i j + cents (P .weeks - 1) (λ w. x .line .weekChangeover (suc w)) i j
-    cents-split i j k m =
-        let c = P .line .changeoverCents i j in
-        let W = P .weeks in
-        let f : ℕ → ℕ = λ w. c * x .line .weekChangeover w i j in
-        let e : suc (W - 1) ≡ W = omega (arith, R .weeks-least) in
-        sum-ext W (λ w. c * (x .line .changeover w i j + x .line .weekChangeover w i j)) (λ w. c * x .line .changeover w i j + f w) (λ w l. omega arith)
-        ∙ (sum-add W (λ w. c * x .line .changeover w i j) f
-        ∙ omega (arith, ap (λ (n : ℕ). sumBelow n f) e, sum-first (W - 1) f, ap (λ (n : ℕ). c * n) (none i j k m)))
-
-    changeover-cents : sumBelow (P .weeks) (changeoversOf P x)
-        ≡ 1000 * sumBelow (P .products) (λ i. sumOthers (P .products) i (cents (P .weeks) (x .line .changeover) i))
-        + 1000 * sumBelow (P .products) (λ i. sumOthers (P .products) i (cents (P .weeks - 1) (λ w. x .line .weekChangeover (suc w)) i))
-    unfolding changeoversOf changeoverUnder
+    changeover-cents : sumBelow (P .weeks) (changeoverChargeIn P x)
+        ≡ 1000 * sumBelow (P .weeks) (λ w. changeoversUnder (P .products) (P .line .changeoverCents) (x .line .changeover w))
+        + 1000 * sumBelow (P .weeks - 1) (λ w. changeoversUnder (P .products) (P .line .changeoverCents) (x .line .weekChangeover (suc w)))
+    unfolding changeoverChargeIn changeoversIn
     changeover-cents =
-        let N = P .products in
         let W = P .weeks in
-        let under = changeoverUnder N (P .line .changeoverCents) (x .line) in
-        let all = cents W (λ w i j. x .line .changeover w i j + x .line .weekChangeover w i j) in
-        let inner = cents W (x .line .changeover) in
-        let outer = cents (W - 1) (λ w. x .line .weekChangeover (suc w)) in
+        let within : ℕ → ℕ = λ w. changeoversUnder (P .products) (P .line .changeoverCents) (x .line .changeover w) in
+        let between : ℕ → ℕ = λ w. changeoversUnder (P .products) (P .line .changeoverCents) (x .line .weekChangeover w) in
+        let e : suc (W - 1) ≡ W = omega (arith, R .weeks-least) in
         omega (
           arith,
-          sum-ext W (changeoversOf P x) (λ w. under w * 1000) (λ w l. omega arith),
-          sum-mul W under 1000,
-          weeks-grid W N N (λ i j w. P .line .changeoverCents i j * (x .line .changeover w i j + x .line .weekChangeover w i j)),
-          grid-ext N N all (λ i j. inner i j + outer i j) cents-split,
-          grid-add N N inner outer,
-          cents-others W (x .line .changeover),
-          cents-others (W - 1) (λ w. x .line .weekChangeover (suc w)),
+          sum-ext W (λ w. 1000 * (within w + between w)) (λ w. (within w + between w) * 1000) (λ w l. omega arith),
+          sum-mul W (λ w. within w + between w) 1000,
+          sum-add W within between,
+          ap (λ (n : ℕ). sumBelow n between) e,
+          sum-first (W - 1) between,
+          under-zero (P .products) (P .line .changeoverCents) (x .line .weekChangeover 0) none,
         )
 
     objective-profit : profitOf P x (P .weeks) ≡ objective P x
-    unfolding objective profitOf salesOf backlogOf inventoryOf
+    unfolding objective profitOf revenueIn backlogChargeIn inventoryChargeIn
     objective-profit =
         let W = P .weeks in
+        let within = cents-under W (x .line .changeover) in
+        let between = cents-under (W - 1) (λ w. x .line .weekChangeover (suc w)) in
         let s = weeks-grid W (P .customers) (P .products) (λ c i w. P .price c i * x .sales c i w) in
         let d = weeks-grid W (P .customers) (P .products) (λ c i w. P .backlogCost c i * x .backlog c i w) in
         let v = sum-swap W (P .products) (λ w i. P .inventoryCost i * x .inventory w i) in
         let sales = sumGrid (P .customers) (P .products) (λ c i. sumBelow W (λ w. P .price c i * x .sales c i w)) in
-        let z = sym (lose-both (pos sales) _ _ (sumBelow W (changeoversOf P x)) (sym changeover-cents)) in
-        (λ u. pos (s u) -ℤ pos (sumBelow W (changeoversOf P x)) -ℤ pos (sumBelow W (backlogOf P x)) -ℤ pos (sumBelow W (inventoryOf P x)))
-        ∙ (λ u. z u -ℤ pos (d u) -ℤ pos (v u))
+        let z = sym (lose-both (pos sales) _ _ (sumBelow W (changeoverChargeIn P x)) (sym changeover-cents)) in
+        (λ u. pos (s u) -ℤ pos (sumBelow W (changeoverChargeIn P x)) -ℤ pos (sumBelow W (backlogChargeIn P x)) -ℤ pos (sumBelow W (inventoryChargeIn P x)))
+        ∙ ((λ u. z u -ℤ pos (d u) -ℤ pos (v u)) ∙ (λ u. pos sales -ℤ pos (1000 * within u) -ℤ pos (1000 * between u) -ℤ pos (d 1) -ℤ pos (v 1)))
 
 -- ---- the constraints on the order of one week
-module _ (P : Plant) (x : Plan) (w : ℕ) where
-  facts-model : WeekFacts (P .products) (weekOf (x .line) w) → OrderModel P x w
+module _ (N : ℕ) (x : LinePlan) (w : ℕ) where
+  facts-model : WeekFacts N (weekOf x w) → sumBelow N (x .first w) ≡ 1 → OrderModel N x w
   unfolding weekOf
-  facts-model f =
-      let N = P .products in
-      let z = x .line .changeover w in
+  facts-model f one =
+      let z = x .changeover w in
       let self : (i : ℕ) → i < N → z i i ≡ 0 = λ i l. bit-zero (z i i) (f .changeover-bit i l i l) (λ e. omega (arith, f .rises i l i l e)) in
-      let most : (i : ℕ) → i < N → x .line .position w i ≤ N =
-      λ i l. omega (arith, f .high i l, sum-mono N (x .line .assigned w) (λ k. 1) (f .assigned-bit), sum-const N 1) in
+      let most : (i : ℕ) → i < N → x .position w i ≤ N =
+      λ i l. omega (arith, f .high i l, sum-mono N (x .assigned w) (λ k. 1) (f .assigned-bit), sum-const N 1) in
       record {
-        one-first = f .one-first;
-        one-last = f .one-last;
+        one-first = one;
+        one-last = one-last f ∙ one;
         first-assigned = λ i l. omega (arith, f .into i l);
         last-assigned = λ i l. omega (arith, f .out i l);
         not-itself = self;
@@ -127,67 +119,85 @@ module _ (P : Plant) (x : Plan) (w : ℕ) where
           | yes e ↦ omega (arith, f .rises i l j m e)
           | no d ↦ (let e : z i j ≡ 0 = omega (arith, f .changeover-bit i l j m) in rw e (omega (arith, most i l)))
         ];
-        absent = λ i l. elim (ℕ-discrete (x .line .assigned w i) 0) [
+        absent = λ i l. elim (ℕ-discrete (x .assigned w i) 0) [
           | yes e ↦ omega (arith, f .absent i l e)
-          | no d ↦ (let e : x .line .assigned w i ≡ 1 = omega (arith, f .assigned-bit i l) in rw e (omega (arith, most i l)))
+          | no d ↦ (let e : x .assigned w i ≡ 1 = omega (arith, f .assigned-bit i l) in rw e (omega (arith, most i l)))
         ];
         least-index = f .low;
         most-index = f .high;
       }
 
-  model-facts : Binary P x → w < P .weeks → OrderModel P x w → WeekFacts (P .products) (weekOf (x .line) w)
+  model-facts : ((i : ℕ) → i < N → x .assigned w i ≤ 1) → ((i j : ℕ) → i < N → j < N → x .changeover w i j ≤ 1) → OrderModel N x w
+      → WeekFacts N (weekOf x w)
   unfolding weekOf
-  model-facts b l m =
-      let z = x .line .changeover w in
+  model-facts assigned changeover m =
+      let z = x .changeover w in
       record {
-        assigned-bit = λ i k. b .assigned w i l k;
-        first-bit = λ i k. b .first w i l k;
-        last-bit = λ i k. b .last w i l k;
-        changeover-bit = λ i k j n. b .changeover w i j l k n;
-        one-first = m .one-first;
-        one-last = m .one-last;
-        into = λ j k. omega (arith, m .into j k, others-all (P .products) j (λ i. z i j) (m .not-itself j));
-        out = λ i k. omega (arith, m .out i k, others-all (P .products) i (z i) (m .not-itself i));
+        assigned-bit = assigned;
+        changeover-bit = λ i k j n. changeover i j k n;
+        one-first = omega (arith, m .one-first);
+        into = λ j k. omega (arith, m .into j k, others-all N j (λ i. z i j) (m .not-itself j));
+        out = λ i k. omega (arith, m .out i k, others-all N i (z i) (m .not-itself i));
         absent = λ i k e. omega (arith, rw e at (m .absent i k));
         low = m .least-index;
         high = m .most-index;
         rises = λ i k j n e. omega (arith, rw e at (m .rises i j k n));
       }
 
+-- ---- the constraints on changeovers between weeks are rule 33 in the paper's words
+module _ (N : ℕ) (x : LinePlan) where
+  none-of : words33 N x 0 ≡ true → (i j : ℕ) → i < N → j < N → x .weekChangeover 0 i j ≡ 0
+  none-of h i j k m = eqb-true (x .weekChangeover 0 i j) 0 (all-grid N N (λ i j. eqb (x .weekChangeover 0 i j) 0) h i j k m)
+
+  between-of : (w : ℕ) → words33 N x (suc w) ≡ true → BetweenModel N x w
+  between-of w h = let b = and-both _ _ h in record { into-first = all-equal N _ _ (b .0); out-of-last = all-equal N _ _ (b .1) }
+
+  words-of : ((i j : ℕ) → i < N → j < N → x .weekChangeover 0 i j ≡ 0) → (w : ℕ) → ((v : ℕ) → suc v ≡ w → BetweenModel N x v) → words33 N x w ≡ true
+  words-of none zero b = grid-all N N (λ i j. eqb (x .weekChangeover 0 i j) 0) (λ i j k m. eq-eqb (x .weekChangeover 0 i j) 0 (none i j k m))
+  words-of none (suc w) b = let m = b w refl in both-and _ _ (equal-all N _ _ (m .into-first)) (equal-all N _ _ (m .out-of-last))
+
 -- ---- the whole plan
 module _ (P : Plant) (R : PlantRanges P) (x : Plan) where
-  rules-profit : RulesHold P x → x .profit ≡ objective P x
-  rules-profit r = profit-of P x r ∙ objective-profit P R x (none-before P x (r .r33 0 (R .weeks-least)))
+  module _ (r : RulesHold P x) where
+    words : (w : ℕ) → w < P .weeks → words33 (P .products) (x .line) w ≡ true
+    words w l = sym (words-33 (P .products) (P .line) (x .line) (P .weeks) (r .r31) w l) ∙ r .r33 w l
 
-  rules-model : Binary P x → RulesHold P x → Model P x
-  rules-model b r =
-      record {
-        binary = b;
-        order = λ w l. facts-model P x w (plan-facts P x b r w l);
-        amounts = amounts-of P x r;
-        none-before = λ i j l. none-before P x (r .r33 0 l) i j;
-        between = λ w l. between-facts P x w (r .r33 (suc w) l);
-      }
+    rules-profit : x .profit ≡ objective P x
+    rules-profit = profit-of P x r ∙ objective-profit P R x (none-of (P .products) (x .line) (words 0 (R .weeks-least)))
+
+    rules-model : Binary P x → Model P x
+    rules-model b =
+        record {
+          binary = b;
+          order = λ w l. facts-model (P .products) (x .line) w (plan-facts P x b r w l) (plan-first P x b r w l);
+          times = rules-times P x r;
+          amounts = amounts-of P x r;
+          none-before = λ i j l. none-of (P .products) (x .line) (words 0 l) i j;
+          between = λ w l. between-of (P .products) (x .line) w (words (suc w) l);
+        }
 
   module _ (m : Model P x) where
     meets : (w : ℕ) → w < P .weeks → Meets (P .products) (weekOf (x .line) w)
-    meets w l = facts-meet (P .products) (weekOf (x .line) w) (model-facts P x w (m .binary) l (m .order w l))
+    unfolding weekOf
+    meets w l =
+        facts-meet (P .products) (weekOf (x .line) w)
+        (model-facts (P .products) (x .line) w (λ i. m .binary .assigned w i l) (λ i j. m .binary .changeover w i j l) (m .order w l))
+        (m .order w l .one-first)
 
-    between : (w : ℕ) → w < P .weeks → rule33 (P .products) (x .line) w ≡ true
-    between zero l = before-none P x (λ i j. m .none-before i j l)
-    between (suc w) l = facts-between P x w (m .between w l)
-
-    none : (i j : ℕ) → i < P .products → j < P .products → x .line .weekChangeover 0 i j ≡ 0
-    none i j = m .none-before i j (R .weeks-least)
+    passages : (w : ℕ) → w < P .weeks → rule33 (P .products) (P .line) (x .line) w ≡ true
+    passages w l =
+        words-33 (P .products) (P .line) (x .line) (P .weeks) (λ v k. meets v k .meets31) w l
+        ∙ words-of (P .products) (x .line) (λ i j. m .none-before i j (omega arith)) w (λ v e. m .between v (omega arith))
 
     model-holds : x .profit ≡ objective P x → RulesHold P x
-    model-holds e = rules-hold P x meets between (m .amounts) (e ∙ sym (objective-profit P R x none))
+    model-holds e =
+        rules-hold P x meets passages (m .times) (m .amounts) (e ∙ sym (objective-profit P R x (λ i j. m .none-before i j (R .weeks-least))))
 
 -- a plan of binary tables passes exactly where it meets the constraints of the model and its profit is the objective
 pub model-rules : {P : Plant} → PlantRanges P → {x : Plan} → Binary P x
     → ((q : Profit) × (verdictOf P x ≡ Passed q)) ↔ (Model P x × (x .profit ≡ objective P x))
 model-rules {P} R {x} b = (
-  λ r. (let h = verdict-rules P x (r .0) (r .1) .0 in (rules-model P R x b h, rules-profit P R x h)),
+  λ r. (let h = verdict-rules P x (r .0) (r .1) .0 in (rules-model P R x h b, rules-profit P R x h)),
   λ m. (record { 0 = x .profit }, rules-verdict P x (model-holds P R x (m .0) (m .1))),
 )
 

@@ -1,17 +1,13 @@
 -- Gains and losses in any order come to one difference. Assumes nothing.
-use Prim.Native.Nat.{ℕ, zero, suc, _+_, _-_, _≤_}
-use mathlib.Core.Path.{_≡_, refl, sym, ap, _∙_}
-use mathlib.Core.Bool.{Bool, true, false, cond}
+use Prim.Native.Nat.{ℕ, _+_}
+use mathlib.Core.Path.{_≡_, sym, ap, _∙_}
+use mathlib.Core.Bool.{true}
 use native.Mathlib.Omega.{arith}
-use lib.Dec.{ltb}
-use lib.IntN.{ℤ, pos, negsuc, negℤ, _+ℤ_, _-ℤ_, +ℤ-assoc, +ℤ-comm, negℤ-+ℤ, pos-+ℤ-pos}
-use lib.Signed.{mag}
-use borrow.Author.Tests.{eqb-true, eq-eqb}
+use lib.IntN.{ℤ, pos, negsuc, negℤ, _+ℤ_, _-ℤ_, +ℤ-assoc, +ℤ-comm, pos-+ℤ-pos}
+use borrow.Author.Tests.{eqb-true}
+use Rattle.units.proofs.Signed.{lose-lose}
 use Rattle.rules.specs.Rules.{sameInteger}
-
-lose-lose : (z : ℤ) (a b : ℕ) → z -ℤ pos a -ℤ pos b ≡ z -ℤ pos (a + b)
-lose-lose z a b =
-    +ℤ-assoc z (negℤ (pos a)) (negℤ (pos b)) ∙ ap (λ (x : ℤ). z +ℤ x) (sym (negℤ-+ℤ (pos a) (pos b)) ∙ ap negℤ (pos-+ℤ-pos a b))
+use Rattle.rules.proofs.Profits.{same-yes}
 
 lose-gain : (z : ℤ) (a b : ℕ) → z -ℤ pos a +ℤ pos b ≡ z +ℤ pos b -ℤ pos a
 lose-gain z a b =
@@ -38,20 +34,5 @@ same-equal (pos a) (negsuc b) h = absurd (let z : _≡_ {A = ℕ} 0 1 = cc in om
 same-equal (negsuc a) (pos b) h = absurd (let z : _≡_ {A = ℕ} 0 1 = cc in omega arith)
 same-equal (negsuc a) (negsuc b) h = ap negsuc (eqb-true a b h)
 
-same-itself : (a : ℤ) → sameInteger a a ≡ true
-same-itself (pos a) = eq-eqb a a refl
-same-itself (negsuc a) = eq-eqb a a refl
-
 pub equal-same : (a b : ℤ) → a ≡ b → sameInteger a b ≡ true
-equal-same a b e = ap (λ (z : ℤ). sameInteger z b) e ∙ same-itself b
-
--- ---- the magnitude of a difference
-cut-magnitude : (a b : ℕ) (t : Bool) → mag (cond t (negsuc (suc b - suc a)) (pos (a - suc b))) ≤ a + b
-cut-magnitude a b true = omega arith
-cut-magnitude a b false = omega arith
-
-pub lose-magnitude : (z : ℤ) (n : ℕ) → mag (z -ℤ pos n) ≤ mag z + n
-lose-magnitude (pos a) zero = omega arith
-lose-magnitude (pos a) (suc n) = let h = cut-magnitude a n (ltb a (suc n)) in omega arith
-lose-magnitude (negsuc a) zero = let h = cut-magnitude 0 a (ltb 0 (suc a)) in omega arith
-lose-magnitude (negsuc a) (suc n) = omega arith
+equal-same a b e = ap (λ (z : ℤ). sameInteger z b) e ∙ same-yes b

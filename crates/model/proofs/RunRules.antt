@@ -1,68 +1,72 @@
 -- The tables of a run without a stop: each week is an order, and rules 33 and 35 to 40 hold. Assumes nothing.
-use Prim.Native.Nat.{ℕ, zero, suc, _+_, _*_, _<_, _≤_}
-use mathlib.Core.Path.{_≡_, refl, ap, _∙_}
+use Prim.Native.Nat.{ℕ, _+_, _*_, _<_, _≤_}
+use mathlib.Core.Path.{_≡_, refl, sym, ap}
 use mathlib.Core.Bool.{true}
+use mathlib.Core.List.{List}
 use native.Mathlib.Omega.{arith}
 use native.Mathlib.Decide.{ℕ-discrete}
-use Rattle.mathematics.specs.Order.{isOrder, orderTables}
-use Rattle.mathematics.proofs.Below.{sum-ext, sum-mul}
-use Rattle.mathematics.proofs.WeekRules.{WeekFacts, facts-agree}
-use Rattle.mathematics.proofs.OrderTables.{order-facts, order-week-facts}
+use Rattle.mathematics.specs.Order.{isOrder, assignedIn, firstIn}
+use Rattle.mathematics.proofs.OrderTables.{an-order}
 use Rattle.plant_file.specs.Plant.{Plant}
 use Rattle.plant_file.specs.Ranges.{PlantRanges}
-use Rattle.slot_file.specs.Slots.{Slots}
-use Rattle.machine.specs.Run.{opening, ranWeek, after}
-use Rattle.rules.specs.Rules.{rule33}
-use Rattle.model.specs.RunTables.{orderOfSlots, isMounted, whoRan, whoFirst, whoLast, minutesOf, lineTables, runTables}
+use Rattle.slot_file.specs.Slots.{Slot, orderOfSlots, WeekFormed, Slots}
+use Rattle.slot_file.proofs.Orders.{order-below}
+use Rattle.machine.specs.Run.{ranWeek, after}
+use Rattle.rules.specs.Rules.{mountedBefore, rule33}
+use Rattle.costs.specs.Mounted.{isMounted}
+use Rattle.model.specs.RunTables.{minutesOf, lineTables, mountedAt, runTables}
 use Rattle.model.specs.Model.{AmountModel}
+use Rattle.model.proofs.Grids.{columns-sum, rows-sum}
 use Rattle.model.proofs.Changeovers.{totalMinutes, totalChangeover, no-minutes, minutes-part, sum-minutes}
-use Rattle.model.proofs.Orders.{listTables, list-tables, an-order}
-use Rattle.model.proofs.RunStates.{WeekFormed, mounted-below, mounted-last, changeover-total, ran-clock}
+use Rattle.model.proofs.RunStates.{FormedTo, mounted-marks, changeover-total, ran-clock}
 use Rattle.model.proofs.RunStates.{backlog-before, inventory-before, ran-backlog, ran-inventory, after-backlog, after-inventory}
-use Rattle.model.proofs.Stops.{WeekClear}
-use Rattle.model.proofs.RuleFacts.{under-minutes, before-none, facts-between}
+use Rattle.model.proofs.Stops.{WeekContinues}
+use Rattle.model.proofs.RuleFacts.{under-minutes, facts-passage, Times}
 
 module _ (P : Plant) (R : PlantRanges P) (S : Slots) where
   -- ---- one week
-  module _ (w : ℕ) (f : WeekFormed P S w) (h : WeekClear P S w) where
-    pub run-once : (i : ℕ) → i < P .products → whoRan (orderOfSlots (S .line .week w)) i ≤ 1
+  module _ (w : ℕ) (f : WeekFormed (P .products) (S .line .week w)) (h : WeekContinues P S w) where
+    abbrev xs : List Slot
+    xs = S .line .week w
+
+    pub run-once : (i : ℕ) → i < P .products → assignedIn (orderOfSlots xs) i ≤ 1
     run-once i l = omega (arith, h .slots .once i l)
 
-    pub run-order : isOrder (P .products) (orderOfSlots (S .line .week w)) ≡ true
-    run-order = an-order (P .products) (orderOfSlots (S .line .week w)) (f .some) (f .product) run-once
+    pub run-order : isOrder (P .products) (orderOfSlots xs) ≡ true
+    run-order = an-order (P .products) (orderOfSlots xs) (order-below (P .products) xs f) run-once
 
-    facts : WeekFacts (P .products) (listTables (orderOfSlots (S .line .week w)))
-    facts =
-        facts-agree (P .products) (listTables (orderOfSlots (S .line .week w))) (orderTables (orderOfSlots (S .line .week w)))
-        (list-tables (P .products) (orderOfSlots (S .line .week w)) (f .some))
-        (order-week-facts (P .products) (orderOfSlots (S .line .week w)) (order-facts (P .products) (orderOfSlots (S .line .week w)) run-order))
-
-    pub clock : totalMinutes (S .line .week w)
-        + totalChangeover (P .line .changeoverMinutes) (after P S w .mounted) (orderOfSlots (S .line .week w)) ≤ P .weekMinutes
+    pub clock : totalMinutes xs + totalChangeover (P .line .changeoverMinutes) (mountedAt P S w) (orderOfSlots xs) ≤ P .weekMinutes
     unfolding ranWeek
-    clock = omega (arith, ran-clock P S w, h .slots .fits)
+    clock = omega (arith, ran-clock P S w, h .slots .early)
 
-    longest : (i : ℕ) → i < P .products → minutesOf (S .line .week w) i ≤ P .weekMinutes * whoRan (orderOfSlots (S .line .week w)) i
-    longest i l = elim (ℕ-discrete (whoRan (orderOfSlots (S .line .week w)) i) 0) [
-      | yes e ↦ omega (arith, no-minutes (S .line .week w) i e)
+    longest : (i : ℕ) → i < P .products → minutesOf xs i ≤ P .weekMinutes * assignedIn (orderOfSlots xs) i
+    longest i l = elim (ℕ-discrete (assignedIn (orderOfSlots xs) i) 0) [
+      | yes e ↦ omega (arith, no-minutes xs i e)
       | no d ↦
-          (let e : whoRan (orderOfSlots (S .line .week w)) i ≡ 1 = omega (arith, run-once i l) in
-          rw e (omega (arith, minutes-part (S .line .week w) i, clock)))
+          (let e : assignedIn (orderOfSlots xs) i ≡ 1 = omega (arith, run-once i l) in
+          rw e (omega (arith, minutes-part xs i, clock)))
     ]
 
-    pub run-amounts : ((u : ℕ) → u < w → WeekFormed P S u) → AmountModel P (runTables P S) w
+    pub run-times : FormedTo P S w → Times P (runTables P S) w
     unfolding runTables lineTables
-    run-amounts g =
+    run-times g =
+        let x = runTables P S .line in
         record {
-          shortest = h .slots .long;
-          longest = longest;
+          shortest-run = h .slots .long;
+          longest-run = longest;
           time = omega (
             arith,
             clock,
-            under-minutes P (runTables P S) w,
-            sum-minutes (P .products) (S .line .week w) (f .product),
-            changeover-total P S (P .line .changeoverMinutes) w (mounted-below P S w g) f,
+            under-minutes (P .products) (P .line) x w (P .line .changeoverMinutes),
+            sum-minutes (P .products) xs (order-below (P .products) xs f),
+            changeover-total P S (P .line .changeoverMinutes) w g f,
           );
+        }
+
+    pub run-amounts : AmountModel P (runTables P S) w
+    unfolding runTables lineTables
+    run-amounts =
+        record {
           produced = λ i k. refl;
           backlogs = λ c i j k. omega (arith, h .ends .due c i j k, ran-backlog P S R w c i, backlog-before P S R w c i j k, after-backlog P S R w c i j k);
           inventories = λ i k. omega (
@@ -77,21 +81,16 @@ module _ (P : Plant) (R : PlantRanges P) (S : Slots) where
         }
 
   -- ---- 33
-  module _ (n : ℕ) (f : (w : ℕ) → w < n → WeekFormed P S w) (h : (w : ℕ) → w < n → WeekClear P S w) where
-    pub run-between : (w : ℕ) → w < n → rule33 (P .products) (lineTables P S) w ≡ true
-    unfolding runTables lineTables opening
-    run-between zero l = before-none P (runTables P S) (λ i j _ _. omega arith)
-    run-between (suc w) l =
-        let a = facts w (f w (omega arith)) (h w (omega arith)) in
-        let b = facts (suc w) (f (suc w) l) (h (suc w) l) in
-        let last = isMounted (after P S (suc w) .mounted) in
-        let first = whoFirst (orderOfSlots (S .line .week (suc w))) in
-        let m = mounted-last P S w (f w (omega arith)) in
-        facts-between P (runTables P S) w (record {
-          into-first = λ j k.
-              sum-mul (P .products) last (first j)
-              ∙ omega (arith, ap (λ (x : ℕ). x * first j) (sum-ext (P .products) last (whoLast (orderOfSlots (S .line .week w))) (λ i _. m i) ∙ a .one-last));
-          out-of-last = λ i k.
-              sum-ext (P .products) (λ j. last i * first j) (λ j. first j * last i) (λ j _. omega arith)
-              ∙ (sum-mul (P .products) first (last i) ∙ omega (arith, ap (λ (x : ℕ). x * last i) (b .one-first), m i));
+  module _ (n : ℕ) (f : FormedTo P S n) where
+    pub run-passages : (w : ℕ) → w < n → rule33 (P .products) (P .line) (runTables P S .line) w ≡ true
+    unfolding runTables lineTables
+    run-passages w l =
+        let x = lineTables (mountedAt P S) (S .line) in
+        let first = firstIn (orderOfSlots (S .line .week w)) in
+        let before = mountedBefore (P .line) x w in
+        let cells : (i j : ℕ) → i < P .products → j < P .products → isMounted (mountedAt P S w) i * first j ≡ before i * first j =
+        λ i j k m. ap (λ (u : ℕ). u * first j) (sym (mounted-marks P S x n f (λ v i a b. refl) w (omega arith) i k)) in
+        facts-passage (P .products) (P .line) x w (record {
+          into-first = columns-sum (P .products) first before (x .weekChangeover w) cells;
+          out-of-mounted = rows-sum (P .products) first before (x .weekChangeover w) cells;
         })

@@ -1,165 +1,166 @@
 -- The states that a run passes through, by its tables: what is mounted, inventory, backlog, clock and profit. Stops aside.
 -- Assumes nothing.
 use Prim.Native.Nat.{ℕ, zero, suc, _+_, _*_, _-_, _<_, _≤_}
-use Prim.{tt}
 use mathlib.Core.Path.{_≡_, refl, sym, ap, _∙_}
 use mathlib.Core.List.{List, [], _∷_}
 use native.Mathlib.Omega.{arith}
 use lib.ListN.{length, getD}
 use lib.IntN.{ℤ, pos, _+ℤ_, _-ℤ_, +ℤ-idr}
 use Rattle.mathematics.specs.Below.{sumBelow}
-use Rattle.plant_file.specs.Plant.{Plant}
+use Rattle.mathematics.specs.Order.{ProductsBelow, lastIn}
+use Rattle.plant_file.specs.Plant.{LinePlant, Plant}
 use Rattle.plant_file.specs.Ranges.{PlantRanges}
-use Rattle.slot_file.specs.Slots.{Slot, Slots}
-use Rattle.machine.specs.declared.Mounted.{Mounted}
+use Rattle.plan_file.specs.Plan.{LinePlan}
+use Rattle.slot_file.specs.Slots.{Slot, orderOfSlots, WeekFormed, Slots}
+use Rattle.slot_file.proofs.Orders.{order-length, order-below}
+use Rattle.costs.specs.Money.{changeoverChargeOf}
+use Rattle.costs.proofs.Changeovers.{opening-below}
+use Rattle.costs.specs.declared.Mounted.{Mounted}
+use Rattle.costs.specs.declared.Mounted.the-variants.{Product}
 use Rattle.machine.specs.declared.State.{State}
-use Rattle.machine.specs.State.{inventoryOf, backlogOf, withInventory, withBacklog, withWeek, withProfit, withMounted}
-use Rattle.machine.specs.Machine.{changeoverTo, clockAfter, weekBegin, slotDone, inventoryAfter, backlogAfter, booked, weekDone}
+use Rattle.machine.specs.State.{inventoryOf, backlogOf, withInventory, withBacklog, withLine, withWeek, withProfit, withMounted}
+use Rattle.costs.specs.Changeover.{changeoverTo}
+use Rattle.machine.specs.Machine.{clockAfter, weekBegin, slotDone, weekInput, inventoryAfter, backlogAfter, booked, weekDone}
+use Rattle.costs.specs.Mounted.{mountedBelow}
 use Rattle.machine.specs.Run.{opening, slotsDone, ranWeek, after}
-use Rattle.rules.specs.Rules.{changeoverUnder, backlogBefore, inventoryBefore, salesOf, changeoversOf, profitOf}
-use Rattle.rules.specs.Rules as rules
-use Rattle.model.specs.RunTables.{orderOfSlots, isMounted, lastOf, whoLast, changeoversFrom, minutesOf, lineTables, runTables}
-use Rattle.model.specs.Match.{Formed}
+use Rattle.rules.specs.Rules.{mountedBefore, changeoversIn, backlogBefore, inventoryBefore, revenueIn, changeoverChargeIn, backlogChargeIn, inventoryChargeIn}
+use Rattle.rules.specs.Rules.{profitOf}
+use Rattle.costs.specs.Mounted.{isMounted}
+use Rattle.model.specs.RunTables.{lastOf, minutesOf, lineTables, mountedAt, runTables}
 use Rattle.model.proofs.States.{Lengths, opening-lengths, begin-lengths, slot-lengths, week-lengths}
 use Rattle.model.proofs.States.{opening-inventory, opening-backlog, slot-inventory, week-inventory, week-backlog, week-profit}
-use Rattle.model.proofs.Grids.{grid-ext}
 use Rattle.model.proofs.Money.{lose-both, week-more}
-use Rattle.model.proofs.Changeovers.{ProductsBelow, MountedBelow, last-below, is-move, totalMinutes, totalChangeover, changeovers-split, sum-changeovers}
-use Rattle.model.proofs.Orders.{length-order}
+use Rattle.model.proofs.Changeovers.{last-below, is-move, totalMinutes, totalChangeover, sum-changeovers}
 
 -- ---- a week's slots
-module _ (P : Plant) where
-  pub slots-lengths : (xs : List Slot) {s : State} → Lengths s → Lengths (slotsDone P xs s)
+module _ (l : LinePlant) where
+  pub slots-lengths : (xs : List Slot) {s : State} → Lengths s → Lengths (slotsDone l xs s)
   slots-lengths [] h = h
-  slots-lengths (x ∷ xs) h = slots-lengths xs (slot-lengths P x h)
+  slots-lengths (x ∷ xs) h = slots-lengths xs (slot-lengths l x h)
 
-  slots-mounted : (xs : List Slot) (s : State) → slotsDone P xs s .mounted ≡ lastOf (s .mounted) (orderOfSlots xs)
-  unfolding slotDone withInventory withWeek withProfit withMounted
+  slots-mounted : (xs : List Slot) (s : State) → slotsDone l xs s .line .mounted ≡ lastOf (s .line .mounted) (orderOfSlots xs)
+  unfolding slotDone withInventory withLine withWeek withProfit withMounted
   slots-mounted [] s = refl
-  slots-mounted (x ∷ xs) s = slots-mounted xs (slotDone P x s)
+  slots-mounted (x ∷ xs) s = slots-mounted xs (slotDone l x s)
 
-  slots-backlog : (xs : List Slot) (s : State) → slotsDone P xs s .backlog ≡ s .backlog
-  unfolding slotDone withInventory withWeek withProfit withMounted
+  slots-backlog : (xs : List Slot) (s : State) → slotsDone l xs s .backlog ≡ s .backlog
+  unfolding slotDone withInventory withLine withWeek withProfit withMounted
   slots-backlog [] s = refl
-  slots-backlog (x ∷ xs) s = slots-backlog xs (slotDone P x s)
-
-  slots-inventory : PlantRanges P → (xs : List Slot) (s : State) → Lengths s → ProductsBelow (P .products) (orderOfSlots xs) → (i : ℕ)
-      → inventoryOf (slotsDone P xs s) i ≡ inventoryOf s i + P .line .rate i * minutesOf xs i
-  slots-inventory R [] s h k i = omega arith
-  slots-inventory R (x ∷ xs) s h k i =
-      omega (
-        arith,
-        slots-inventory R xs (slotDone P x s) (slot-lengths P x h) (λ u l. k (suc u) (omega arith)) i,
-        slot-inventory P R x s h (k 0 (omega arith)) i,
-        is-move (λ j. P .line .rate j * x .minutes) (x .product) i,
-      )
+  slots-backlog (x ∷ xs) s = slots-backlog xs (slotDone l x s)
 
   pub slots-clock : (xs : List Slot) (s : State)
-      → slotsDone P xs s .clock .0 ≡ s .clock .0 + totalMinutes xs + totalChangeover (P .line .changeoverMinutes) (s .mounted) (orderOfSlots xs)
-  unfolding slotDone clockAfter withInventory withWeek withProfit withMounted
+      → slotsDone l xs s .line .clock .0 ≡ s .line .clock .0 + totalMinutes xs + totalChangeover (l .changeoverMinutes) (s .line .mounted) (orderOfSlots xs)
+  unfolding slotDone clockAfter withInventory withLine withWeek withProfit withMounted
   slots-clock [] s = omega arith
-  slots-clock (x ∷ xs) s = omega (arith, slots-clock xs (slotDone P x s))
+  slots-clock (x ∷ xs) s = omega (arith, slots-clock xs (slotDone l x s))
 
   slots-profit : (xs : List Slot) (s : State)
-      → slotsDone P xs s .profit .0 ≡ s .profit .0 -ℤ pos (1000 * totalChangeover (P .line .changeoverCents) (s .mounted) (orderOfSlots xs))
-  unfolding slotDone withInventory withWeek withProfit withMounted
+      → slotsDone l xs s .profit .0 ≡ s .profit .0 -ℤ pos (changeoverChargeOf (totalChangeover (l .changeoverCents) (s .line .mounted) (orderOfSlots xs)))
+  unfolding slotDone withInventory withLine withWeek withProfit withMounted
   slots-profit [] s = sym (+ℤ-idr (s .profit .0))
   slots-profit (x ∷ xs) s =
-      slots-profit xs (slotDone P x s)
-      ∙ lose-both (s .profit .0) (1000 * changeoverTo (P .line .changeoverCents) (s .mounted) (x .product))
-      (1000 * totalChangeover (P .line .changeoverCents) (slotDone P x s .mounted) (orderOfSlots xs))
-      (1000 * totalChangeover (P .line .changeoverCents) (s .mounted) (orderOfSlots (x ∷ xs))) (omega arith)
+      slots-profit xs (slotDone l x s)
+      ∙ lose-both (s .profit .0) (changeoverChargeOf (changeoverTo (l .changeoverCents) (s .line .mounted) (x .product)))
+      (changeoverChargeOf (totalChangeover (l .changeoverCents) (slotDone l x s .line .mounted) (orderOfSlots xs)))
+      (changeoverChargeOf (totalChangeover (l .changeoverCents) (s .line .mounted) (orderOfSlots (x ∷ xs)))) (omega arith)
 
--- row 24, of one week
-pub record WeekFormed (P : Plant) (S : Slots) (w : ℕ) : Type 0 where
-  pub some : 0 < length (orderOfSlots (S .line .week w))
-  pub few : length (orderOfSlots (S .line .week w)) ≤ P .products
-  pub product : ProductsBelow (P .products) (orderOfSlots (S .line .week w))
+slots-inventory : (P : Plant) → PlantRanges P → (xs : List Slot) (s : State) → Lengths s → ProductsBelow (P .products) (orderOfSlots xs) → (i : ℕ)
+    → inventoryOf (slotsDone (P .line) xs s) i ≡ inventoryOf s i + P .line .rate i * minutesOf xs i
+slots-inventory P R [] s h k i = omega arith
+slots-inventory P R (x ∷ xs) s h k i =
+    omega (
+      arith,
+      slots-inventory P R xs (slotDone (P .line) x s) (slot-lengths (P .line) x h) (λ u l. k (suc u) (omega arith)) i,
+      slot-inventory P R x s h (k 0 (omega arith)) i,
+      is-move (λ j. P .line .rate j * x .minutes) (x .product) i,
+    )
 
-module _ (P : Plant) (S : Slots) where
-  pub week-formed : Formed P S → (w : ℕ) → w < P .weeks → WeekFormed P S w
-  week-formed f w l =
-      let n = length-order (S .line .week w) in
-      record {
-        some = omega (arith, f .some w l);
-        few = omega (arith, f .few w l);
-        product = λ k m. f .product w k l (omega arith);
-      }
-
-  pub formed-week : ((w : ℕ) → w < P .weeks → WeekFormed P S w) → Formed P S
-  formed-week f =
-      record {
-        some = λ w l. omega (arith, f w l .some, length-order (S .line .week w));
-        few = λ w l. omega (arith, f w l .few, length-order (S .line .week w));
-        product = λ w k l m. f w l .product k (omega (arith, length-order (S .line .week w)));
-      }
+-- what is mounted after some products is the last of them
+last-any : (m : Mounted) (ps : List ℕ) (i : ℕ) → 0 < length ps → isMounted (lastOf m ps) i ≡ lastIn ps i
+last-any m [] i h = absurd (omega arith)
+last-any m (p ∷ []) i h = refl
+last-any m (p ∷ q ∷ ps) i h = last-any (Product p) (q ∷ ps) i (omega arith)
 
 -- ---- week by week
 module _ (P : Plant) (S : Slots) where
+  -- the products of a week
+  abbrev order : ℕ → List ℕ
+  order w = orderOfSlots (S .line .week w)
+
+  -- the state when a week's slots have run
+  abbrev pub ran : ℕ → State
+  ran w = ranWeek P (weekInput P S w) (after P S w)
+
+  -- row 24, of the first n weeks
+  abbrev pub FormedTo : ℕ → Type 0
+  FormedTo n = (w : ℕ) → w < n → WeekFormed (P .products) (S .line .week w)
+
   pub after-lengths : (w : ℕ) → Lengths (after P S w)
   unfolding ranWeek
   after-lengths zero = opening-lengths P
-  after-lengths (suc w) =
-      week-lengths P w (λ c i. S .sales c i w) (slots-lengths P (S .line .week w) (begin-lengths (after-lengths w)))
+  after-lengths (suc w) = week-lengths P (weekInput P S w) (slots-lengths (P .line) (S .line .week w) (begin-lengths (after-lengths w)))
 
-  pub ran-lengths : (w : ℕ) → Lengths (ranWeek P S w (after P S w))
+  ran-lengths : (w : ℕ) → Lengths (ran w)
   unfolding ranWeek
-  ran-lengths w = slots-lengths P (S .line .week w) (begin-lengths (after-lengths w))
+  ran-lengths w = slots-lengths (P .line) (S .line .week w) (begin-lengths (after-lengths w))
 
   -- what is mounted
-  after-mounted : (w : ℕ) → after P S (suc w) .mounted ≡ lastOf (after P S w .mounted) (orderOfSlots (S .line .week w))
-  unfolding weekDone booked backlogAfter inventoryAfter withInventory withBacklog withProfit ranWeek weekBegin withWeek
-  after-mounted w = slots-mounted P (S .line .week w) (weekBegin (after P S w))
+  pub after-mounted : (w : ℕ) → mountedAt P S (suc w) ≡ lastOf (mountedAt P S w) (order w)
+  unfolding weekDone booked backlogAfter inventoryAfter withInventory withBacklog withProfit ranWeek weekBegin withLine withWeek
+  after-mounted w = slots-mounted (P .line) (S .line .week w) (weekBegin (after P S w))
 
-  pub mounted-below : (n : ℕ) → ((w : ℕ) → w < n → WeekFormed P S w) → MountedBelow (P .products) (after P S n .mounted)
+  pub mounted-below : (n : ℕ) → FormedTo n → mountedBelow (P .products) (mountedAt P S n)
   unfolding opening
-  mounted-below zero f = tt
+  mounted-below zero f = opening-below (P .products) (P .line)
   mounted-below (suc n) f =
-      rw (after-mounted n) (last-below (P .products) (after P S n .mounted) (orderOfSlots (S .line .week n))
-      (mounted-below n (λ w l. f w (omega arith))) (f n (omega arith) .product))
-
-  last-any : (m : Mounted) (ps : List ℕ) (i : ℕ) → 0 < length ps → isMounted (lastOf m ps) i ≡ whoLast ps i
-  last-any m [] i h = absurd (omega arith)
-  last-any m (p ∷ ps) i h = refl
+      rw (after-mounted n) (last-below (P .products) (mountedAt P S n) (order n)
+      (mounted-below n (λ w l. f w (omega arith))) (order-below (P .products) (S .line .week n) (f n (omega arith))))
 
   -- what is mounted when a later week begins is the last product of the week before
-  pub mounted-last : (w : ℕ) → WeekFormed P S w → (i : ℕ) → isMounted (after P S (suc w) .mounted) i ≡ whoLast (orderOfSlots (S .line .week w)) i
+  mounted-last : (w : ℕ) → WeekFormed (P .products) (S .line .week w) → (i : ℕ) → isMounted (mountedAt P S (suc w)) i ≡ lastIn (order w) i
   mounted-last w f i =
-      ap (λ (m : Mounted). isMounted m i) (after-mounted w) ∙ last-any (after P S w .mounted) (orderOfSlots (S .line .week w)) i (f .some)
+      ap (λ (m : Mounted). isMounted m i) (after-mounted w)
+      ∙ last-any (mountedAt P S w) (order w) i (omega (arith, f .some, order-length (S .line .week w)))
+
+  -- what is mounted before a week, by the tables of a plan that has these last products
+  pub mounted-marks : (x : LinePlan) (n : ℕ) → FormedTo n → ((w i : ℕ) → w < n → i < P .products → x .last w i ≡ lastIn (order w) i)
+      → (w : ℕ) → w ≤ n → (i : ℕ) → i < P .products → mountedBefore (P .line) x w i ≡ isMounted (mountedAt P S w) i
+  unfolding mountedBefore opening
+  mounted-marks x n f last zero l i k = refl
+  mounted-marks x n f last (suc w) l i k = last w i l k ∙ sym (mounted-last w (f w l) i)
 
   -- changeovers by the tables
-  pub changeover-total : (table : ℕ → ℕ → ℕ) (w : ℕ) → MountedBelow (P .products) (after P S w .mounted) → WeekFormed P S w
-      → changeoverUnder (P .products) table (lineTables P S) w ≡ totalChangeover table (after P S w .mounted) (orderOfSlots (S .line .week w))
-  unfolding changeoverUnder lineTables
-  changeover-total table w h f =
-      grid-ext (P .products) (P .products) _ (λ i j. table i j * changeoversFrom (after P S w .mounted) (orderOfSlots (S .line .week w)) i j)
-      (λ i j _ _. ap (λ (x : ℕ). table i j * x) (sym (changeovers-split (after P S w .mounted) (orderOfSlots (S .line .week w)) i j)))
-      ∙ sum-changeovers (P .products) table (after P S w .mounted) (orderOfSlots (S .line .week w)) h (f .product)
+  pub changeover-total : (table : ℕ → ℕ → ℕ) (w : ℕ) → FormedTo w → WeekFormed (P .products) (S .line .week w)
+      → changeoversIn (P .products) table (lineTables (mountedAt P S) (S .line)) w ≡ totalChangeover table (mountedAt P S w) (order w)
+  unfolding changeoversIn lineTables
+  changeover-total table w g f =
+      sum-changeovers (P .products) table (mountedAt P S w) (order w) (mounted-below w g) (order-below (P .products) (S .line .week w) f)
 
-  pub ran-clock : (w : ℕ) → ranWeek P S w (after P S w) .clock .0
-      ≡ totalMinutes (S .line .week w) + totalChangeover (P .line .changeoverMinutes) (after P S w .mounted) (orderOfSlots (S .line .week w))
-  unfolding ranWeek weekBegin withWeek
-  ran-clock w = omega (arith, slots-clock P (S .line .week w) (weekBegin (after P S w)))
+  pub ran-clock : (w : ℕ) → ran w .line .clock .0
+      ≡ totalMinutes (S .line .week w) + totalChangeover (P .line .changeoverMinutes) (mountedAt P S w) (order w)
+  unfolding ranWeek weekBegin withLine withWeek
+  ran-clock w = omega (arith, slots-clock (P .line) (S .line .week w) (weekBegin (after P S w)))
 
   -- the profit so far
-  ran-profit : (n : ℕ) → MountedBelow (P .products) (after P S n .mounted) → WeekFormed P S n
-      → ranWeek P S n (after P S n) .profit .0 ≡ after P S n .profit .0 -ℤ pos (changeoversOf P (runTables P S) n)
-  unfolding ranWeek weekBegin withWeek changeoversOf runTables
-  ran-profit n h f =
-      slots-profit P (S .line .week n) (weekBegin (after P S n))
-      ∙ ap (λ (x : ℕ). after P S n .profit .0 -ℤ pos (1000 * x)) (sym (changeover-total (P .line .changeoverCents) n h f))
+  ran-profit : (n : ℕ) → FormedTo (suc n) → ran n .profit .0 ≡ after P S n .profit .0 -ℤ pos (changeoverChargeIn P (runTables P S) n)
+  unfolding ranWeek weekBegin withLine withWeek changeoverChargeIn runTables
+  ran-profit n f =
+      slots-profit (P .line) (S .line .week n) (weekBegin (after P S n))
+      ∙ ap (λ (x : ℕ). after P S n .profit .0 -ℤ pos (changeoverChargeOf x)) (sym (changeover-total (P .line .changeoverCents) n (λ w l. f w (omega arith)) (f n (omega arith))))
 
-  pub after-profit : (n : ℕ) → ((w : ℕ) → w < n → WeekFormed P S w) → after P S n .profit .0 ≡ profitOf P (runTables P S) n
-  unfolding opening profitOf salesOf rules.backlogOf rules.inventoryOf runTables
+  pub after-profit : (n : ℕ) → FormedTo n → after P S n .profit .0 ≡ profitOf P (runTables P S) n
+  unfolding opening profitOf revenueIn backlogChargeIn inventoryChargeIn runTables
   after-profit zero f = refl
   after-profit (suc n) f =
       let x = runTables P S in
-      let g : (w : ℕ) → w < n → WeekFormed P S w = λ w l. f w (omega arith) in
-      week-profit P n (λ c i. S .sales c i n) (ranWeek P S n (after P S n))
-      ∙ ap (λ (z : ℤ). z +ℤ pos (salesOf P x n) -ℤ pos (rules.backlogOf P x n) -ℤ pos (rules.inventoryOf P x n))
-      (ran-profit n (mounted-below n g) (f n (omega arith)) ∙ ap (λ (z : ℤ). z -ℤ pos (changeoversOf P x n)) (after-profit n g))
-      ∙ week-more (sumBelow n (salesOf P x)) (sumBelow n (changeoversOf P x)) (sumBelow n (rules.backlogOf P x)) (sumBelow n (rules.inventoryOf P x))
-      (salesOf P x n) (changeoversOf P x n) (rules.backlogOf P x n) (rules.inventoryOf P x n)
+      let sales = revenueIn P x in
+      let over = changeoverChargeIn P x in
+      let late = backlogChargeIn P x in
+      let held = inventoryChargeIn P x in
+      week-profit P (weekInput P S n) (ran n)
+      ∙ ap (λ (z : ℤ). z +ℤ pos (sales n) -ℤ pos (late n) -ℤ pos (held n))
+      (ran-profit n f ∙ ap (λ (z : ℤ). z -ℤ pos (over n)) (after-profit n (λ w l. f w (omega arith))))
+      ∙ week-more (sumBelow n sales) (sumBelow n over) (sumBelow n late) (sumBelow n held) (sales n) (over n) (late n) (held n)
 
   -- ---- backlog and inventory
   module _ (R : PlantRanges P) where
@@ -175,24 +176,23 @@ module _ (P : Plant) (S : Slots) where
     inventory-before (suc w) i l = refl
 
     -- when the week's slots have run
-    pub ran-backlog : (w c i : ℕ) → backlogOf (P .products) (ranWeek P S w (after P S w)) c i ≡ backlogOf (P .products) (after P S w) c i
-    unfolding ranWeek weekBegin withWeek backlogOf
-    ran-backlog w c i = ap (λ (l : List ℕ). getD l (c * P .products + i) 0) (slots-backlog P (S .line .week w) (weekBegin (after P S w)))
+    pub ran-backlog : (w c i : ℕ) → backlogOf (P .products) (ran w) c i ≡ backlogOf (P .products) (after P S w) c i
+    unfolding ranWeek weekBegin withLine withWeek backlogOf
+    ran-backlog w c i = ap (λ (l : List ℕ). getD l (c * P .products + i) 0) (slots-backlog (P .line) (S .line .week w) (weekBegin (after P S w)))
 
-    pub ran-inventory : (w : ℕ) → WeekFormed P S w → (i : ℕ)
-        → inventoryOf (ranWeek P S w (after P S w)) i ≡ inventoryOf (after P S w) i + P .line .rate i * minutesOf (S .line .week w) i
-    unfolding ranWeek weekBegin withWeek inventoryOf
+    pub ran-inventory : (w : ℕ) → WeekFormed (P .products) (S .line .week w) → (i : ℕ)
+        → inventoryOf (ran w) i ≡ inventoryOf (after P S w) i + P .line .rate i * minutesOf (S .line .week w) i
+    unfolding ranWeek weekBegin withLine withWeek inventoryOf
     ran-inventory w f i =
-        slots-inventory P R (S .line .week w) (weekBegin (after P S w)) (begin-lengths (after-lengths w)) (f .product) i
+        slots-inventory P R (S .line .week w) (weekBegin (after P S w)) (begin-lengths (after-lengths w))
+        (order-below (P .products) (S .line .week w) f) i
 
     -- after it
     pub after-backlog : (w c i : ℕ) → c < P .customers → i < P .products
         → backlogOf (P .products) (after P S (suc w)) c i ≡ backlogOf (P .products) (after P S w) c i + P .demand c i w - S .sales c i w
-    after-backlog w c i k l =
-        rw (week-backlog P R w (λ c i. S .sales c i w) (ranWeek P S w (after P S w)) (ran-lengths w) c i k l, ran-backlog w c i)
+    after-backlog w c i k l = rw (week-backlog P R (weekInput P S w) (ran w) (ran-lengths w) c i k l, ran-backlog w c i)
 
-    pub after-inventory : (w : ℕ) → WeekFormed P S w → (i : ℕ) → i < P .products
+    pub after-inventory : (w : ℕ) → WeekFormed (P .products) (S .line .week w) → (i : ℕ) → i < P .products
         → inventoryOf (after P S (suc w)) i
         ≡ inventoryOf (after P S w) i + P .line .rate i * minutesOf (S .line .week w) i - sumBelow (P .customers) (λ c. S .sales c i w)
-    after-inventory w f i l =
-        rw (week-inventory P R w (λ c i. S .sales c i w) (ranWeek P S w (after P S w)) (ran-lengths w) i l, ran-inventory w f i)
+    after-inventory w f i l = rw (week-inventory P R (weekInput P S w) (ran w) (ran-lengths w) i l, ran-inventory w f i)

@@ -5,14 +5,15 @@ use lib.IntN.{pos}
 use Rattle.mathematics.specs.Below.{is}
 use Rattle.mathematics.specs.Week.{markedOnce, rule31, rule32, rule34}
 use Rattle.machine.specs.declared.Outcome.the-variants.{Continues, Stops}
-use Rattle.machine.specs.State.{inventoryOf, backlogOf, hasRun, withInventory, withBacklog, withWeek, withProfit, withMounted}
-use Rattle.machine.specs.Machine.{weekBegin, clockAfter, slotDone, slotStep, salesDue, backlogAfter, salesInStock, inventoryAfter, storageKept, booked}
+use Rattle.machine.specs.State.{inventoryOf, backlogOf, hasRun, withInventory, withBacklog, withLine, withWeek, withProfit, withMounted}
+use Rattle.machine.specs.Machine.{weekBegin, clockAfter, slotDone, slotStops, slotStep, salesDue, backlogAfter, salesInStock, inventoryAfter, storageKept, booked}
 use Rattle.machine.specs.Machine.{weekDone, weekEnd}
 use Rattle.machine.specs.Run.{opening, runWeek, run, ranWeek}
 use Rattle.rules.specs.declared.Verdict.the-variants.{Passed, Broken}
-use Rattle.rules.specs.Rules as rules
-use Rattle.rules.specs.Rules.{weekOf, rule33, rule35, rule36, rule37, rule38, rule39, rule40, rule41, changeoverUnder, backlogBefore, inventoryBefore}
-use Rattle.rules.specs.Rules.{salesOf, changeoversOf, profitOf}
+use Rattle.rules.specs.Rules.{weekOf, mountedBefore, rule33, rule35, rule36, rule37, rule38, rule39, rule40, rule41, changeoversUnder, changeoversIn}
+use Rattle.rules.specs.Rules.{backlogBefore, inventoryBefore, revenueIn, changeoverChargeIn, backlogChargeIn, inventoryChargeIn, profitOf}
+use Rattle.costs.specs.Mounted.{openingMounted}
+use Rattle.costs.specs.Changeover.{changeoverBetween}
 use Rattle.rules.specs.Verdict.{trials, tried, profitTried, verdictOf}
 use Rattle.model.specs.RunTables.{lineTables, runTables}
 use Rattle.model.specs.SmallPlant as small
@@ -34,8 +35,8 @@ pub small-plant-facts : map factOf smallCases
     ∷ []
 small-plant-facts =
     unfold smallPlant threeProducts ring smallSlots slotsOfB small.withProfit smallCases lineTables runTables in
-    unfold inventoryOf backlogOf hasRun withInventory withBacklog withWeek withProfit withMounted weekBegin clockAfter slotDone slotStep in
+    unfold inventoryOf backlogOf hasRun withInventory withBacklog withLine withWeek withProfit withMounted weekBegin clockAfter slotDone slotStops slotStep in
     unfold salesDue backlogAfter salesInStock inventoryAfter storageKept booked weekDone weekEnd opening runWeek run ranWeek in
-    unfold is markedOnce rule31 rule32 rule34 weekOf rule33 rule35 rule36 rule37 rule38 rule39 rule40 rule41 trials tried profitTried verdictOf in
-    unfold changeoverUnder backlogBefore inventoryBefore salesOf changeoversOf rules.backlogOf rules.inventoryOf profitOf in
+    unfold is markedOnce rule31 rule32 rule34 weekOf mountedBefore rule33 rule35 rule36 rule37 rule38 rule39 rule40 rule41 trials tried profitTried verdictOf in
+    unfold openingMounted changeoverBetween changeoversUnder changeoversIn backlogBefore inventoryBefore revenueIn changeoverChargeIn backlogChargeIn inventoryChargeIn profitOf in
     refl

@@ -6,8 +6,8 @@ use mathlib.Core.Bool.{cond}
 use lib.Dec.{eqb}
 use lib.IntN.{ℤ, pos, _-ℤ_}
 use Rattle.mathematics.specs.Below.{sumBelow}
-use Rattle.plant_file.specs.Plant.{Plant}
-use Rattle.plan_file.specs.Plan.{Plan}
+use Rattle.plant_file.specs.Plant.{LinePlant, Plant}
+use Rattle.plan_file.specs.Plan.{LinePlan, Plan}
 use Rattle.rules.specs.Rules.{backlogBefore, inventoryBefore}
 
 -- the sum over the indices below n other than k
@@ -22,37 +22,43 @@ pub record Binary (P : Plant) (x : Plan) : Type 0 where
   pub changeover : (w i j : ℕ) → w < P .weeks → i < P .products → j < P .products → x .line .changeover w i j ≤ 1
   pub weekChangeover : (w i j : ℕ) → w < P .weeks → i < P .products → j < P .products → x .line .weekChangeover w i j ≤ 1
 
--- the constraints of week w on its products and their order
-pub record OrderModel (P : Plant) (x : Plan) (w : ℕ) : Type 0 where
+-- the constraints of week w on a line's products, of N, and their order
+pub record OrderModel (N : ℕ) (x : LinePlan) (w : ℕ) : Type 0 where
   -- (2), (3): one first and one last product
-  pub one-first : sumBelow (P .products) (x .line .first w) ≡ 1
-  pub one-last : sumBelow (P .products) (x .line .last w) ≡ 1
+  pub one-first : sumBelow N (x .first w) ≡ 1
+  pub one-last : sumBelow N (x .last w) ≡ 1
   -- (4), (5): each of them processed
-  pub first-assigned : (i : ℕ) → i < P .products → x .line .first w i ≤ x .line .assigned w i
-  pub last-assigned : (i : ℕ) → i < P .products → x .line .last w i ≤ x .line .assigned w i
+  pub first-assigned : (i : ℕ) → i < N → x .first w i ≤ x .assigned w i
+  pub last-assigned : (i : ℕ) → i < N → x .last w i ≤ x .assigned w i
   -- no changeover from a product to itself within a week: the source has no such variable, paper 01 has it 0
-  pub not-itself : (i : ℕ) → i < P .products → x .line .changeover w i i ≡ 0
+  pub not-itself : (i : ℕ) → i < N → x .changeover w i i ≡ 0
   -- (6), (7): one product before each but the first, one after each but the last
-  pub into : (j : ℕ) → j < P .products → sumOthers (P .products) j (λ i. x .line .changeover w i j) + x .line .first w j ≡ x .line .assigned w j
-  pub out : (i : ℕ) → i < P .products → sumOthers (P .products) i (λ j. x .line .changeover w i j) + x .line .last w i ≡ x .line .assigned w i
+  pub into : (j : ℕ) → j < N → sumOthers N j (λ i. x .changeover w i j) + x .first w j ≡ x .assigned w j
+  pub out : (i : ℕ) → i < N → sumOthers N i (λ j. x .changeover w i j) + x .last w i ≡ x .assigned w i
   -- (10), with M = N + 1, more than any order index: where Z is 1 the order index rises
-  pub rises : (i j : ℕ) → i < P .products → j < P .products
-      → x .line .position w i + 1 ≤ x .line .position w j + (P .products + 1) * (1 - x .line .changeover w i j)
+  pub rises : (i j : ℕ) → i < N → j < N → x .position w i + 1 ≤ x .position w j + (N + 1) * (1 - x .changeover w i j)
   -- (11), with M = N: no order index where a product is not processed
-  pub absent : (i : ℕ) → i < P .products → x .line .position w i ≤ P .products * x .line .assigned w i
+  pub absent : (i : ℕ) → i < N → x .position w i ≤ N * x .assigned w i
   -- (12), whose lower bound F paper 01 raises to E: the order indices are from 1 to the count of products processed
-  pub least-index : (i : ℕ) → i < P .products → x .line .assigned w i ≤ x .line .position w i
-  pub most-index : (i : ℕ) → i < P .products → x .line .position w i ≤ sumBelow (P .products) (x .line .assigned w)
+  pub least-index : (i : ℕ) → i < N → x .assigned w i ≤ x .position w i
+  pub most-index : (i : ℕ) → i < N → x .position w i ≤ sumBelow N (x .assigned w)
 
--- the constraints of week w on its minutes and grams
-pub record AmountModel (P : Plant) (x : Plan) (w : ℕ) : Type 0 where
+-- the constraints of week w on a line's minutes
+pub record TimeModel (N shortest week : ℕ) (l : LinePlant) (x : LinePlan) (w : ℕ) : Type 0 where
   -- (13): processing times
-  pub shortest : (i : ℕ) → i < P .products → P .shortestRun * x .line .assigned w i ≤ x .line .minutes w i
-  pub longest : (i : ℕ) → i < P .products → x .line .minutes w i ≤ P .weekMinutes * x .line .assigned w i
+  pub shortest-run : (i : ℕ) → i < N → shortest * x .assigned w i ≤ x .minutes w i
+  pub longest-run : (i : ℕ) → i < N → x .minutes w i ≤ week * x .assigned w i
   -- (14), and (15) for the first week, whose ZF is 0: processing and changeovers within the week
-  pub time : sumBelow (P .products) (x .line .minutes w)
-      + sumBelow (P .products) (λ i. sumBelow (P .products) (λ j. (x .line .changeover w i j + x .line .weekChangeover w i j) * P .line .changeoverMinutes i j))
-      ≤ P .weekMinutes
+  pub time : sumBelow N (x .minutes w)
+      + sumBelow N (λ i. sumBelow N (λ j. (x .changeover w i j + x .weekChangeover w i j) * l .changeoverMinutes i j)) ≤ week
+
+-- the changeovers between a line's week w and the next: (8), one into the first product, and (9), one out of the last product of the week before
+pub record BetweenModel (N : ℕ) (x : LinePlan) (w : ℕ) : Type 0 where
+  pub into-first : (j : ℕ) → j < N → sumBelow N (λ i. x .weekChangeover (suc w) i j) ≡ x .first (suc w) j
+  pub out-of-last : (i : ℕ) → i < N → sumBelow N (λ j. x .weekChangeover (suc w) i j) ≡ x .last w i
+
+-- the constraints of week w on its grams
+pub record AmountModel (P : Plant) (x : Plan) (w : ℕ) : Type 0 where
   -- (16): production
   pub produced : (i : ℕ) → i < P .products → x .production w i ≡ P .line .rate i * x .line .minutes w i
   -- (17), (18): backlog and inventory, as sums on both sides
@@ -63,18 +69,14 @@ pub record AmountModel (P : Plant) (x : Plan) (w : ℕ) : Type 0 where
   pub storage-least : (i : ℕ) → i < P .products → P .leastStorage i ≤ x .inventory w i
   pub storage-most : (i : ℕ) → i < P .products → x .inventory w i ≤ P .greatestStorage i
 
--- the changeovers between week w - 1 and week w: none before the first week; later (8), one into the first product, and (9), one out
--- of the last product of the week before
-pub record BetweenModel (P : Plant) (x : Plan) (w : ℕ) : Type 0 where
-  pub into-first : (j : ℕ) → j < P .products → sumBelow (P .products) (λ i. x .line .weekChangeover (suc w) i j) ≡ x .line .first (suc w) j
-  pub out-of-last : (i : ℕ) → i < P .products → sumBelow (P .products) (λ j. x .line .weekChangeover (suc w) i j) ≡ x .line .last w i
-
 pub record Model (P : Plant) (x : Plan) : Type 0 where
   pub binary : Binary P x
-  pub order : (w : ℕ) → w < P .weeks → OrderModel P x w
+  pub order : (w : ℕ) → w < P .weeks → OrderModel (P .products) (x .line) w
+  pub times : (w : ℕ) → w < P .weeks → TimeModel (P .products) (P .shortestRun) (P .weekMinutes) (P .line) (x .line) w
   pub amounts : (w : ℕ) → w < P .weeks → AmountModel P x w
+  -- none before the first week
   pub none-before : (i j : ℕ) → 0 < P .weeks → i < P .products → j < P .products → x .line .weekChangeover 0 i j ≡ 0
-  pub between : (w : ℕ) → suc w < P .weeks → BetweenModel P x w
+  pub between : (w : ℕ) → suc w < P .weeks → BetweenModel (P .products) (x .line) w
 
 -- (1), in thousandths of a cent: sales, less changeovers within and between weeks (ZF from the second week on), backlog and inventory
 unfoldable pub objective : Plant → Plan → ℤ

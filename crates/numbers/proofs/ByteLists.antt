@@ -1,8 +1,7 @@
 -- Lists of bytes: what numbers, joins and stores are made of. Assumes nothing.
-use Prim.Native.Nat.{ℕ, zero, suc, _/_, _%_, _<_}
+use Prim.Native.Nat.{ℕ, zero, suc, _/_}
 use mathlib.Core.List.{List, [], _∷_, _++_}
 use native.Mathlib.Omega.{arith}
-use lib.ListN.{getD}
 use Rattle.mathematics.specs.Below.{joinBelow}
 use Rattle.numbers.specs.Number.{Bytes, digits, encode}
 

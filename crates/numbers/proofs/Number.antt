@@ -1,13 +1,13 @@
 -- Numbers written and read back, at every width. Assumes nothing.
 use Prim.Native.Nat.{ℕ, zero, suc, _+_, _*_, _/_, _%_, _^_, _≤_, _<_}
 use mathlib.Core.Path.{_≡_, refl, sym, ap, _∙_}
-use mathlib.Core.List.{List, [], _∷_, _++_, append-nil}
+use mathlib.Core.List.{List, [], _∷_, append-nil}
 use native.Mathlib.Omega.{arith}
 use native.Mathlib.Nat.{add-zero, zero-add, suc-add, pow-zero, pow-suc, mul-suc, mul-comm, mul-le-mul-left}
 use native.Mathlib.Numerals.{add-one}
 use lib.ListN.{length, getD, take, drop}
-use lib.Seq.{drop-cons, drop-drop, getD-drop}
-use Rattle.mathematics.specs.Below.{sumBelow, joinBelow}
+use lib.Seq.{drop-cons, drop-drop}
+use Rattle.mathematics.specs.Below.{sumBelow}
 use Rattle.mathematics.proofs.Below.{sum-ext, sum-const}
 use Rattle.mathematics.proofs.Join.{join-ext, join-length, join-cuts, join-part}
 use Rattle.numbers.specs.Number.{Bytes, numberAt, digits, encode, part, store}

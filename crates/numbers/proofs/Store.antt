@@ -1,13 +1,13 @@
 -- Laws of parts of a list, and of lists stored in another. Assumes nothing.
 use Prim.Native.Nat.{ℕ, zero, suc, _+_, _-_, _≤_, _<_}
-use mathlib.Core.Path.{_≡_, refl, sym, ap, _∙_}
+use mathlib.Core.Path.{_≡_, sym, ap, _∙_}
 use mathlib.Core.List.{List, [], _∷_, _++_, append-assoc, append-nil}
 use native.Mathlib.Omega.{arith}
 use native.Mathlib.Nat.{zero-add}
 use lib.ListN.{length, getD, take, drop, length-append, length-drop, drop-of-length-le}
 use lib.Seq.{sets, sets-eq, length-sets, length-take-le, take-nil, drop-nil, take-all, take-take, drop-drop}
 use lib.Seq.{take-at, drop-append-add, getD-take, getD-drop}
-use borrow.Rule.Slice.PartMut.{midOf, postOf, putMid}
+use borrow.Rule.Slice.PartMut.{midOf, putMid}
 use native.Mathlib.Numerals.{add-one}
 use Rattle.mathematics.specs.Below.{sumBelow, joinBelow}
 use Rattle.mathematics.proofs.Below.{sum-prefix}

@@ -2,9 +2,9 @@
 ghost use mathlib.Core.Path.{_≡_};
 ghost use mathlib.Core.Bool.{_&&_};
 ghost use Prim.Native.Nat.{_+_, _*_, _≤_, _<_, _^_};
-ghost use lib.ListN.{length, getD};
+ghost use lib.ListN.{length};
 ghost use Rattle.mathematics.specs.Below.{within};
-ghost use Rattle.numbers.specs.Number.{numberAt, digits, encode, store, Width};
+ghost use Rattle.numbers.specs.Number.{numberAt, digits, store, Width};
 ghost use Rattle.numbers.specs.Signed.{signedOf, unsignedOf};
 
 // Both of two tests.
@@ -28,8 +28,8 @@ pub fn wide(x: u8) -> u64
     x as u64
 }
 
-// A byte as a place or a count.
-pub fn count(x: u8) -> usize
+// A byte as a usize: a place or a count of places.
+pub fn as_usize(x: u8) -> usize
     ensures { λ r. ⌜ (r ≡ x) × (r < 256) ⌝ }
 {
     x as usize
@@ -114,20 +114,6 @@ pub fn write(out: &mut [u8], at: usize, k: usize, v: u64)
         left = left / 256;
         p += 1;
         i -= 1;
-    }
-}
-
-// Stores numbers of k bytes, end to end, from the start of what is lent.
-pub fn write_all(out: &mut [u8], k: usize, values: &[u64])
-    requires { ⌜ k * length (now values) ≤ length (now out) ⌝ }
-    ensures { λ _. ⌜ now (out .exit) ≡ store (now (out .entry)) 0 (encode k (length (now (values .entry))) (λ i. getD (now (values .entry)) i 0)) ⌝ }
-{
-    let mut p = 0;
-    let mut i = 0;
-    while i < values.len() {
-        write(out, p, k, values[i]);
-        p += k;
-        i += 1;
     }
 }
 

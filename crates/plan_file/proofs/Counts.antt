@@ -30,3 +30,11 @@ pub zeros : (n j : ℕ) → _≡_ {A = ℕ} (getD (replicate n 0) j 0) 0
 zeros zero j = refl
 zeros (suc n) zero = refl
 zeros (suc n) (suc j) = zeros n j
+
+-- row l holds the numbers g below k; one more is stored
+pub stored-below : (l : List ℕ) (k v : ℕ) (g : ℕ → ℕ) → k < length l → ((j : ℕ) → j < k → getD l j 0 ≡ g j) → v ≡ g k
+    → (j : ℕ) → j < k + 1 → getD (set l k v) j 0 ≡ g j
+stored-below l k v g room done e j h = elim (ℕ-discrete j k) [
+  | yes q ↦ rw q (getD-set-same l k v 0 room ∙ e)
+  | no d ↦ getD-set-other l k j v 0 d ∙ done j (omega arith)
+]

@@ -1,6 +1,6 @@
 -- A PLAN FILE WITH GIVEN NUMBERS IS GOOD, AND THOSE NUMBERS ARE READ BACK. Assumes nothing.
 use Prim.Native.Nat.{ℕ, _+_, _*_, _^_, _≤_, _<_}
-use mathlib.Core.Path.{_≡_, refl, ap, _∙_}
+use mathlib.Core.Path.{_≡_, refl, ap, _∙_, sym}
 use mathlib.Core.Bool.{true}
 use mathlib.Core.List.{List, [], map}
 use native.Mathlib.Omega.{arith}
@@ -15,6 +15,7 @@ use Rattle.sections.specs.Section.{inRange, grid, cube}
 use Rattle.sections.specs.declared.Shape.{Shape}
 use Rattle.sections.specs.declared.Form.the-variants.{Good}
 use Rattle.sections.proofs.Tables.{section-at, grid-at, cube-at}
+use Rattle.sections.proofs.Layouts.{table-rows}
 use Rattle.plan_file.specs.Plan.{Plan, linePlanOf, planOf, Same2, Same3, SamePlan, Below2, Below3, PlanFits}
 use Rattle.plan_file.specs.Form.{planLengths, binary, planForm}
 use Rattle.plan_file.specs.File.{planBodies, planFile}
@@ -26,7 +27,7 @@ use Rattle.plan_file.proofs.PlanReads.{facts-binary, bits-range}
 -- each body has its length
 pub bodies-lengths : (f : Shape) (x : Plan) → map length (planBodies f x) ≡ planLengths f
 unfolding planBodies
-bodies-lengths f x = simp (grid-length, cube-length)
+bodies-lengths f x = simp (grid-length, cube-length, table-rows)
 
 pub file-length : (f : Shape) (x : Plan) → length (planFile f x) ≡ start (planLengths f) 12
 unfolding planFile
@@ -72,13 +73,14 @@ module _ (f : Shape) (x : Plan) (small : Small f) where
     unfolding planOf linePlanOf planBodies
     file-plan =
         let l = h .line in
+        let squares = sym (table-rows 1 (f .weeks) (f .products) (f .products)) in
         record {
           line = record {
             assigned = by-week 0 (omega arith) 1 (x .line .assigned) (omega arith) refl refl (l .assigned);
             first = by-week 1 (omega arith) 1 (x .line .first) (omega arith) refl refl (l .first);
             last = by-week 2 (omega arith) 1 (x .line .last) (omega arith) refl refl (l .last);
-            changeover = by-three 3 (omega arith) 1 _ _ _ (x .line .changeover) (omega arith) refl refl (l .changeover);
-            weekChangeover = by-three 4 (omega arith) 1 _ _ _ (x .line .weekChangeover) (omega arith) refl refl (l .weekChangeover);
+            changeover = by-three 3 (omega arith) 1 _ _ _ (x .line .changeover) (omega arith) squares refl (l .changeover);
+            weekChangeover = by-three 4 (omega arith) 1 _ _ _ (x .line .weekChangeover) (omega arith) squares refl (l .weekChangeover);
             position = by-week 5 (omega arith) 1 (x .line .position) (omega arith) refl refl (l .position);
             minutes = by-week 6 (omega arith) 2 (x .line .minutes) (omega arith) refl refl (l .minutes);
           };

@@ -1,6 +1,6 @@
 -- A GOOD PLAN FILE IS THE LAYOUT OF ITS NUMBERS, byte for byte. Assumes nothing.
 use Prim.Native.Nat.{ℕ, zero, suc, _+_, _*_, _<_}
-use mathlib.Core.Path.{_≡_, refl, ap, _∙_}
+use mathlib.Core.Path.{_≡_, refl, ap, _∙_, sym}
 use mathlib.Core.List.{List, []}
 use native.Mathlib.Omega.{arith}
 use lib.ListN.{getD}
@@ -14,6 +14,7 @@ use Rattle.sections.specs.Section.{grid, cube}
 use Rattle.sections.specs.declared.Shape.{Shape}
 use Rattle.sections.specs.declared.Form.the-variants.{Good}
 use Rattle.sections.proofs.Rows.{laid-extent, laid-holds, width1, width2, width4, width8}
+use Rattle.sections.proofs.Layouts.{table-rows}
 use Rattle.sections.proofs.Tables.{grid-flat, cube-flat, section-is}
 use Rattle.plan_file.specs.Plan.{linePlanOf, planOf}
 use Rattle.plan_file.specs.Form.{planLengths, planForm}
@@ -55,12 +56,13 @@ module _ (f : Shape) (s : List ℕ) (b : Bytes s) (h : planForm f s ≡ Good f) 
   bodies : (i : ℕ) → i < 12 → getD (planBodies f (planOf f s)) i [] ≡ part s (offset s i) (extent s i)
   unfolding planBodies planOf linePlanOf
   bodies =
+      let squares = sym (table-rows 1 (f .weeks) (f .products) (f .products)) in
       below-twelve (λ i. getD (planBodies f (planOf f s)) i [] ≡ part s (offset s i) (extent s i))
       (by-week 0 (omega arith) 1 width1 refl)
       (by-week 1 (omega arith) 1 width1 refl)
       (by-week 2 (omega arith) 1 width1 refl)
-      (by-three 3 (omega arith) 1 _ _ _ width1 refl)
-      (by-three 4 (omega arith) 1 _ _ _ width1 refl)
+      (by-three 3 (omega arith) 1 _ _ _ width1 squares)
+      (by-three 4 (omega arith) 1 _ _ _ width1 squares)
       (by-week 5 (omega arith) 1 width1 refl)
       (by-week 6 (omega arith) 2 width2 refl)
       (by-week 7 (omega arith) 4 width4 refl)

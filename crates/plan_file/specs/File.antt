@@ -5,6 +5,7 @@ use Rattle.numbers.specs.Number.{digits}
 use Rattle.numbers.specs.Signed.{unsignedOf}
 use Rattle.contents.specs.File.{fileOf}
 use Rattle.sections.specs.Section.{grid, cube}
+use Rattle.sections.specs.Layout.{planKind}
 use Rattle.sections.specs.declared.Shape.{Shape}
 use Rattle.plan_file.specs.Plan.{Plan}
 
@@ -26,4 +27,4 @@ planBodies f x =
     ∷ []
 
 unfoldable pub planFile : Shape → Plan → List ℕ
-planFile f x = fileOf 2 21 (planBodies f x)
+planFile f x = fileOf (planKind .number) (planKind .first) (planBodies f x)

@@ -1,59 +1,153 @@
 // Plan files, kind 2: the rows of refusal, the numbers of each section, and the writing of them.
 ghost use mathlib.Core.Path.{_≡_};
-ghost use Prim.Native.Nat.{ℕ, _+_, _*_, _≤_, _<_, _^_};
+ghost use Prim.Native.Nat.{ℕ, _+_, _/_, _%_, _*_, _≤_, _<_, _^_};
 ghost use lib.ListN.{length, getD};
 ghost use Rattle.mathematics.specs.Below.{sumBelow};
-ghost use Rattle.numbers.specs.Number.{store, encode};
+ghost use Rattle.numbers.specs.Number.{store};
 ghost use Rattle.contents.specs.Contents.{sized};
 ghost use Rattle.contents.specs.File.{start, contentsBytes};
-ghost use Rattle.sections.specs.Section.{Laid};
+ghost use Rattle.sections.specs.Section.{Laid, cube};
 ghost use Rattle.sections.specs.declared.Form.the-variants.{Good};
 ghost use Rattle.plan_file.specs.Plan.{planOf};
-ghost use Rattle.plan_file.specs.Tables.{weeklyOf, passageOf};
-ghost use Rattle.plan_file.specs.Form.{planLengths, binary, planForm};
+ghost use Rattle.plan_file.specs.Tables.{productTableOf, changeoverTableOf, SumsOf};
+ghost use Rattle.sections.specs.Layout.{planKind, contentsLength, layout};
+ghost use Rattle.plan_file.specs.Form.{planLayout, planLengths, binary, planForm};
 use contents::cell_in;
 use contents::is_headed;
 use contents::is_placed;
 use contents::is_sized;
 use numbers::and;
-use numbers::count;
+use numbers::as_usize;
 use numbers::signed;
-use numbers::wide;
-use numbers::write_all;
 use sections::Form;
+use sections::Layout;
 use sections::Shape;
 use sections::area;
+use sections::copy_section;
+use sections::customer_sum;
 use sections::in_range;
 use sections::index2;
-use sections::index3;
+use sections::pair_number;
+use sections::pair_row;
+use sections::square_place;
 use sections::volume;
 
-// The lengths of the bodies of sections 21 to 32.
+const KIND: u64 = 2;
+
+const FIRST: u64 = 21;
+
+pub const SECTIONS: usize = 12;
+
+// The places of sections 21 to 32 in the contents.
+pub const ASSIGNED: usize = 0;
+
+pub const FIRST_MADE: usize = 1;
+
+pub const LAST_MADE: usize = 2;
+
+pub const CHANGEOVER: usize = 3;
+
+pub const WEEK_CHANGEOVER: usize = 4;
+
+pub const POSITION: usize = 5;
+
+pub const MINUTES: usize = 6;
+
+pub const PRODUCTION: usize = 7;
+
+pub const SALES: usize = 8;
+
+pub const INVENTORY: usize = 9;
+
+pub const BACKLOG: usize = 10;
+
+pub const PROFIT: usize = 11;
+
+// A byte for each pair of products, week by week.
+fn squares(f: Shape) -> Layout
+    ensures { λ r. ⌜ (r ≡ layout 1 (f .weeks) (f .products * f .products)) × (r .rows ≤ 65025) × (r .columns ≤ 65025) ⌝ }
+{
+    Layout {
+        width: 1,
+        rows: as_usize(f.weeks),
+        columns: area(f.products, f.products),
+    }
+}
+
+// Four bytes for each number.
+fn grams(rows: usize, columns: usize) -> Layout
+    ensures { λ r. ⌜ r ≡ layout 4 rows columns ⌝ }
+{
+    Layout {
+        width: 4,
+        rows,
+        columns,
+    }
+}
+
+// How the section in a place is laid out.
+pub fn layout(f: Shape, place: usize) -> Layout
+    requires { ⌜ place < planKind .sections ⌝ }
+    ensures { λ r. ⌜ (r ≡ getD (planLayout f) place (layout 0 0 0)) × (r .width ≤ 8) × (r .rows ≤ 65025) × (r .columns ≤ 65025) ⌝ }
+{
+    let weeks = as_usize(f.weeks);
+    let products = as_usize(f.products);
+    if place == CHANGEOVER {
+        return squares(f);
+    }
+    if place == WEEK_CHANGEOVER {
+        return squares(f);
+    }
+    if place == MINUTES {
+        return Layout {
+            width: 2,
+            rows: weeks,
+            columns: products,
+        };
+    }
+    if place == PRODUCTION {
+        return grams(weeks, products);
+    }
+    if place == SALES {
+        return grams(area(f.customers, f.products), weeks);
+    }
+    if place == INVENTORY {
+        return grams(weeks, products);
+    }
+    if place == BACKLOG {
+        return grams(area(f.customers, f.products), weeks);
+    }
+    if place == PROFIT {
+        return Layout {
+            width: 8,
+            rows: 1,
+            columns: 1,
+        };
+    }
+    Layout {
+        width: 1,
+        rows: weeks,
+        columns: products,
+    }
+}
+
+// The lengths of the bodies.
 fn body_lengths(f: Shape) -> [u64; 12]
     ensures { λ r. ⌜ r ≡ planLengths f ⌝ }
 {
-    let wn = area(f.weeks, f.products) as u64;
-    let wnn = volume(f.weeks, f.products, f.products) as u64;
-    let cnw = volume(f.customers, f.products, f.weeks) as u64;
-    [
-        wn,
-        wn,
-        wn,
-        wnn,
-        wnn,
-        wn,
-        2 * wn,
-        4 * wn,
-        4 * cnw,
-        4 * wn,
-        4 * cnw,
-        8,
-    ]
+    let mut lengths = [0; 12];
+    let mut place = 0;
+    while place < SECTIONS {
+        let x = layout(f, place);
+        lengths[place] = (x.width * (x.rows * x.columns)) as u64;
+        place += 1;
+    }
+    lengths
 }
 
 // Row 13.
 fn has_lengths(s: &[u8], f: Shape) -> bool
-    requires { ⌜ 110 ≤ length (now s) ⌝ }
+    requires { ⌜ contentsLength planKind ≤ length (now s) ⌝ }
     ensures { λ r. ⌜ r ≡ sized (now (s .entry)) (planLengths f) ⌝ }
 {
     let lengths = body_lengths(f);
@@ -68,14 +162,14 @@ fn is_binary(s: &[u8], f: Shape) -> bool
     let wn = area(f.weeks, f.products);
     let wnn = volume(f.weeks, f.products, f.products);
     and(
-        in_range(s, 0, 1, 0, wn, 0, 1),
+        in_range(s, ASSIGNED, 1, 0, wn, 0, 1),
         and(
-            in_range(s, 1, 1, 0, wn, 0, 1),
+            in_range(s, FIRST_MADE, 1, 0, wn, 0, 1),
             and(
-                in_range(s, 2, 1, 0, wn, 0, 1),
+                in_range(s, LAST_MADE, 1, 0, wn, 0, 1),
                 and(
-                    in_range(s, 3, 1, 0, wnn, 0, 1),
-                    in_range(s, 4, 1, 0, wnn, 0, 1),
+                    in_range(s, CHANGEOVER, 1, 0, wnn, 0, 1),
+                    in_range(s, WEEK_CHANGEOVER, 1, 0, wnn, 0, 1),
                 ),
             ),
         ),
@@ -86,10 +180,10 @@ fn is_binary(s: &[u8], f: Shape) -> bool
 pub fn plan_form(s: &[u8], f: Shape) -> Form
     ensures { λ r. ⌜ r ≡ planForm f (now (s .entry)) ⌝ }
 {
-    if !is_headed(s, 2, 21, 12) {
+    if !is_headed(s, KIND, FIRST, SECTIONS) {
         return Form::Refused(11);
     }
-    if !is_placed(s, 12) {
+    if !is_placed(s, SECTIONS) {
         return Form::Refused(12);
     }
     if !has_lengths(s, f) {
@@ -106,7 +200,7 @@ pub fn assigned(s: &[u8], f: Shape, week: usize, product: usize) -> u64
     requires { ⌜ (planForm f (now s) ≡ Good f) × (week < f .weeks) × (product < f .products) ⌝ }
     ensures { λ r. ⌜ (r ≡ planOf f (now (s .entry)) .line .assigned week product) × (r < 2) ⌝ }
 {
-    cell_in(s, 0, 1, index2(week, f.weeks, product, f.products))
+    cell_in(s, ASSIGNED, 1, index2(week, f.weeks, product, f.products))
 }
 
 // F: whether a product is the first of a week.
@@ -114,7 +208,7 @@ pub fn first(s: &[u8], f: Shape, week: usize, product: usize) -> u64
     requires { ⌜ (planForm f (now s) ≡ Good f) × (week < f .weeks) × (product < f .products) ⌝ }
     ensures { λ r. ⌜ (r ≡ planOf f (now (s .entry)) .line .first week product) × (r < 2) ⌝ }
 {
-    cell_in(s, 1, 1, index2(week, f.weeks, product, f.products))
+    cell_in(s, FIRST_MADE, 1, index2(week, f.weeks, product, f.products))
 }
 
 // L: whether a product is the last of a week.
@@ -122,25 +216,7 @@ pub fn last(s: &[u8], f: Shape, week: usize, product: usize) -> u64
     requires { ⌜ (planForm f (now s) ≡ Good f) × (week < f .weeks) × (product < f .products) ⌝ }
     ensures { λ r. ⌜ (r ≡ planOf f (now (s .entry)) .line .last week product) × (r < 2) ⌝ }
 {
-    cell_in(s, 2, 1, index2(week, f.weeks, product, f.products))
-}
-
-// Z: whether one product follows another within a week.
-pub fn changeover(s: &[u8], f: Shape, week: usize, from: usize, to: usize) -> u64
-    requires { ⌜ (planForm f (now s) ≡ Good f) × (week < f .weeks) × (from < f .products) × (to < f .products) ⌝ }
-    ensures { λ r. ⌜ (r ≡ planOf f (now (s .entry)) .line .changeover week from to) × (r < 2) ⌝ }
-{
-    let j = index3(week, f.weeks, from, f.products, to, f.products);
-    cell_in(s, 3, 1, j)
-}
-
-// ZF: whether one product, the first of a week, follows another, the last of the week before.
-pub fn week_changeover(s: &[u8], f: Shape, week: usize, from: usize, to: usize) -> u64
-    requires { ⌜ (planForm f (now s) ≡ Good f) × (week < f .weeks) × (from < f .products) × (to < f .products) ⌝ }
-    ensures { λ r. ⌜ (r ≡ planOf f (now (s .entry)) .line .weekChangeover week from to) × (r < 2) ⌝ }
-{
-    let j = index3(week, f.weeks, from, f.products, to, f.products);
-    cell_in(s, 4, 1, j)
+    cell_in(s, LAST_MADE, 1, index2(week, f.weeks, product, f.products))
 }
 
 // O: a product's place in a week.
@@ -148,7 +224,7 @@ pub fn position(s: &[u8], f: Shape, week: usize, product: usize) -> u64
     requires { ⌜ (planForm f (now s) ≡ Good f) × (week < f .weeks) × (product < f .products) ⌝ }
     ensures { λ r. ⌜ (r ≡ planOf f (now (s .entry)) .line .position week product) × (r < 2 ^ 8) ⌝ }
 {
-    cell_in(s, 5, 1, index2(week, f.weeks, product, f.products))
+    cell_in(s, POSITION, 1, index2(week, f.weeks, product, f.products))
 }
 
 // T: the minutes that a product is made in a week.
@@ -156,7 +232,7 @@ pub fn minutes(s: &[u8], f: Shape, week: usize, product: usize) -> u64
     requires { ⌜ (planForm f (now s) ≡ Good f) × (week < f .weeks) × (product < f .products) ⌝ }
     ensures { λ r. ⌜ (r ≡ planOf f (now (s .entry)) .line .minutes week product) × (r < 2 ^ 16) ⌝ }
 {
-    cell_in(s, 6, 2, index2(week, f.weeks, product, f.products))
+    cell_in(s, MINUTES, 2, index2(week, f.weeks, product, f.products))
 }
 
 // P: the grams of a product made in a week.
@@ -164,7 +240,7 @@ pub fn production(s: &[u8], f: Shape, week: usize, product: usize) -> u64
     requires { ⌜ (planForm f (now s) ≡ Good f) × (week < f .weeks) × (product < f .products) ⌝ }
     ensures { λ r. ⌜ (r ≡ planOf f (now (s .entry)) .production week product) × (r < 2 ^ 32) ⌝ }
 {
-    cell_in(s, 7, 4, index2(week, f.weeks, product, f.products))
+    cell_in(s, PRODUCTION, 4, index2(week, f.weeks, product, f.products))
 }
 
 // V: the grams of a product in stock after a week.
@@ -172,25 +248,34 @@ pub fn inventory(s: &[u8], f: Shape, week: usize, product: usize) -> u64
     requires { ⌜ (planForm f (now s) ≡ Good f) × (week < f .weeks) × (product < f .products) ⌝ }
     ensures { λ r. ⌜ (r ≡ planOf f (now (s .entry)) .inventory week product) × (r < 2 ^ 32) ⌝ }
 {
-    cell_in(s, 9, 4, index2(week, f.weeks, product, f.products))
+    cell_in(s, INVENTORY, 4, index2(week, f.weeks, product, f.products))
 }
 
-// S: the grams of a product sold to a customer in a week.
-pub fn sales(s: &[u8], f: Shape, customer: usize, product: usize, week: usize) -> u64
-    requires { ⌜ (planForm f (now s) ≡ Good f) × (customer < f .customers) × (product < f .products) × (week < f .weeks) ⌝ }
-    ensures { λ r. ⌜ (r ≡ planOf f (now (s .entry)) .sales customer product week) × (r < 2 ^ 32) ⌝ }
+// S by pair (customer times the count of products, plus product): a week's sales of its product to its customer.
+pub fn pair_sales(s: &[u8], f: Shape, pair: usize, week: usize) -> u64
+    requires { ⌜ (planForm f (now s) ≡ Good f) × (pair < f .customers * f .products) × (week < f .weeks) ⌝ }
+    ensures { λ r. ⌜ (r ≡ planOf f (now (s .entry)) .sales (pair / f .products) (pair % f .products) week) × (r < 2 ^ 32) ⌝ }
 {
-    let j = index3(customer, f.customers, product, f.products, week, f.weeks);
-    cell_in(s, 8, 4, j)
+    let row = pair_row(s, f, SALES, pair);
+    pair_number(s, f, row, week)
 }
 
-// Δ: the grams of a product owed to a customer after a week.
-pub fn backlog(s: &[u8], f: Shape, customer: usize, product: usize, week: usize) -> u64
-    requires { ⌜ (planForm f (now s) ≡ Good f) × (customer < f .customers) × (product < f .products) × (week < f .weeks) ⌝ }
-    ensures { λ r. ⌜ (r ≡ planOf f (now (s .entry)) .backlog customer product week) × (r < 2 ^ 32) ⌝ }
+// Stores section 29's bytes at the start of what is lent.
+pub fn write_sales(out: &mut [u8], s: &[u8], f: Shape)
+    requires { ⌜ (planForm f (now s) ≡ Good f) × (4 * (f .customers * f .products * f .weeks) ≤ length (now out)) ⌝ }
+    ensures { λ _. ⌜ now (out .exit)
+        ≡ store (now (out .entry)) 0 (cube 4 (f .customers) (f .products) (f .weeks) (planOf f (now (s .entry)) .sales)) ⌝ }
 {
-    let j = index3(customer, f.customers, product, f.products, week, f.weeks);
-    cell_in(s, 10, 4, j)
+    copy_section(out, s, SALES, 4, volume(f.customers, f.products, f.weeks));
+}
+
+// Δ by pair: what is owed of its product to its customer after a week.
+pub fn pair_backlog(s: &[u8], f: Shape, pair: usize, week: usize) -> u64
+    requires { ⌜ (planForm f (now s) ≡ Good f) × (pair < f .customers * f .products) × (week < f .weeks) ⌝ }
+    ensures { λ r. ⌜ (r ≡ planOf f (now (s .entry)) .backlog (pair / f .products) (pair % f .products) week) × (r < 2 ^ 32) ⌝ }
+{
+    let row = pair_row(s, f, BACKLOG, pair);
+    pair_number(s, f, row, week)
 }
 
 // The profit in thousandths of a cent.
@@ -198,108 +283,129 @@ pub fn profit(s: &[u8], f: Shape) -> i64
     requires { ⌜ planForm f (now s) ≡ Good f ⌝ }
     ensures { λ r. ⌜ r ≡ planOf f (now (s .entry)) .profit ⌝ }
 {
-    signed(cell_in(s, 11, 8, 0))
+    signed(cell_in(s, PROFIT, 8, 0))
 }
 
-// ---- sums over a week
+// ---- tables by their names
 
-// The tables by week and product whose weeks are summed: E, F, L and T.
-pub enum Weekly {
+// The tables by week and product: E, F, L and T.
+pub enum ProductTable {
     Assigned,
     First,
     Last,
     Minutes,
 }
 
-// The tables by week, product before and product after: Z, within the week, and ZF, from the week before.
-pub enum Passage {
+// The tables of changeovers: Z, within the week, and ZF, from the week before.
+pub enum ChangeoverTable {
     Within,
     Between,
 }
 
-fn week_number(s: &[u8], f: Shape, table: Weekly, week: usize, product: usize) -> u64
+// A product's number in a week.
+pub fn product_number(s: &[u8], f: Shape, table: ProductTable, week: usize, product: usize) -> u64
     requires { ⌜ (planForm f (now s) ≡ Good f) × (week < f .weeks) × (product < f .products) ⌝ }
-    ensures { λ r. ⌜ (r ≡ weeklyOf table (planOf f (now (s .entry)) .line) week product) × (r < 2 ^ 16) ⌝ }
+    ensures { λ r. ⌜ (r ≡ productTableOf table (planOf f (now (s .entry)) .line) week product) × (r < 2 ^ 16) ⌝ }
 {
     match table {
-        Weekly::Assigned => assigned(s, f, week, product),
-        Weekly::First => first(s, f, week, product),
-        Weekly::Last => last(s, f, week, product),
-        Weekly::Minutes => minutes(s, f, week, product),
+        ProductTable::Assigned => assigned(s, f, week, product),
+        ProductTable::First => first(s, f, week, product),
+        ProductTable::Last => last(s, f, week, product),
+        ProductTable::Minutes => minutes(s, f, week, product),
     }
 }
 
 // The sum of a week's numbers.
-pub fn week_sum(s: &[u8], f: Shape, table: Weekly, week: usize) -> u64
+pub fn week_sum(s: &[u8], f: Shape, table: ProductTable, week: usize) -> u64
     requires { ⌜ (planForm f (now s) ≡ Good f) × (week < f .weeks) ⌝ }
-    ensures { λ r. ⌜ (r ≡ sumBelow (f .products) (weeklyOf table (planOf f (now (s .entry)) .line) week)) × (r < 2 ^ 24) ⌝ }
+    ensures { λ r. ⌜ (r ≡ sumBelow (f .products) (productTableOf table (planOf f (now (s .entry)) .line) week)) × (r < 2 ^ 24) ⌝ }
 {
-    let n = count(f.products);
+    let n = as_usize(f.products);
     let mut sum = 0;
     let mut i = 0;
     while i < n {
-        sum += week_number(s, f, table, week, i);
+        sum += product_number(s, f, table, week, i);
         i += 1;
     }
     sum
 }
 
-fn passes(s: &[u8], f: Shape, table: Passage, week: usize, from: usize, to: usize) -> u64
-    requires { ⌜ (planForm f (now s) ≡ Good f) × (week < f .weeks) × (from < f .products) × (to < f .products) ⌝ }
-    ensures { λ r. ⌜ (r ≡ passageOf table (planOf f (now (s .entry)) .line) week from to) × (r < 2) ⌝ }
+// Whether there is a changeover, by arc: the product before times the count of products, plus the product after.
+pub fn arc_changeover(s: &[u8], f: Shape, table: ChangeoverTable, week: usize, arc: usize) -> u64
+    requires { ⌜ (planForm f (now s) ≡ Good f) × (week < f .weeks) × (arc < f .products * f .products) ⌝ }
+    ensures { λ r. ⌜ (r ≡ changeoverTableOf table (planOf f (now (s .entry)) .line) week (arc / f .products) (arc % f .products)) × (r < 2) ⌝ }
 {
+    let j = square_place(week, f.weeks, arc, f.products, f.products);
     match table {
-        Passage::Within => changeover(s, f, week, from, to),
-        Passage::Between => week_changeover(s, f, week, from, to),
+        ChangeoverTable::Within => cell_in(s, CHANGEOVER, 1, j),
+        ChangeoverTable::Between => cell_in(s, WEEK_CHANGEOVER, 1, j),
     }
 }
 
-// Adds the numbers out of one product to the sums into each.
-fn add_row(s: &[u8], f: Shape, table: Passage, week: usize, from: usize, into: &mut [u8; 16])
+// The same from one product to another.
+pub fn changeover(
+    s: &[u8],
+    f: Shape,
+    table: ChangeoverTable,
+    week: usize,
+    from: usize,
+    to: usize,
+) -> u64
+    requires { ⌜ (planForm f (now s) ≡ Good f) × (week < f .weeks) × (from < f .products) × (to < f .products) ⌝ }
+    ensures { λ r. ⌜ (r ≡ changeoverTableOf table (planOf f (now (s .entry)) .line) week from to) × (r < 2) ⌝ }
+{
+    let arc = index2(from, f.products, to, f.products);
+    arc_changeover(s, f, table, week, arc)
+}
+
+// A week's sums of a table of changeovers, for at most 16 products: into each and out of it.
+pub struct ArcSums {
+    pub into: [u8; 16],
+    pub out: [u8; 16],
+}
+
+// Adds the marks out of one product to the sums into each, and says their sum.
+fn add_row(
+    s: &[u8],
+    f: Shape,
+    table: ChangeoverTable,
+    week: usize,
+    from: usize,
+    into: &mut [u8; 16],
+) -> u8
     requires { ⌜ (planForm f (now s) ≡ Good f) × (week < f .weeks) × (from < f .products) × (f .products ≤ 16) × (length (now into) ≡ 16)
         × ((j : ℕ) → j < f .products → getD (now into) j 0 ≤ from) ⌝ }
-    ensures { λ _. ⌜ (length (now (into .exit)) ≡ 16) × ((j : ℕ) → j < f .products
-        → getD (now (into .exit)) j 0 ≡ getD (now (into .entry)) j 0 + passageOf table (planOf f (now (s .entry)) .line) week from j)
-        × ((j : ℕ) → j < f .products → getD (now (into .exit)) j 0 ≤ from + 1) ⌝ }
+    ensures { λ r. ⌜ (length (now (into .exit)) ≡ 16) × ((j : ℕ) → j < f .products
+        → getD (now (into .exit)) j 0 ≡ getD (now (into .entry)) j 0 + changeoverTableOf table (planOf f (now (s .entry)) .line) week from j)
+        × ((j : ℕ) → j < f .products → getD (now (into .exit)) j 0 ≤ from + 1)
+        × (r ≡ sumBelow (f .products) (changeoverTableOf table (planOf f (now (s .entry)) .line) week from)) ⌝ }
 {
-    let n = count(f.products);
+    let n = as_usize(f.products);
+    let mut sum: u8 = 0;
     let mut to = 0;
     while to < n {
-        let one = passes(s, f, table, week, from, to) as u8;
-        into[to] += one;
+        let mark = changeover(s, f, table, week, from, to) as u8;
+        into[to] += mark;
+        sum += mark;
         to += 1;
     }
+    sum
 }
 
-// The sums into each product: each counts products, of which there are at most 16.
-pub fn into_sums(s: &[u8], f: Shape, table: Passage, week: usize) -> [u8; 16]
+pub fn arc_sums(s: &[u8], f: Shape, table: ChangeoverTable, week: usize) -> ArcSums
     requires { ⌜ (planForm f (now s) ≡ Good f) × (week < f .weeks) × (f .products ≤ 16) ⌝ }
-    ensures { λ r. ⌜ (length r ≡ 16) × ((j : ℕ) → j < f .products
-        → getD r j 0 ≡ sumBelow (f .products) (λ i. passageOf table (planOf f (now (s .entry)) .line) week i j)) ⌝ }
+    ensures { λ r. ⌜ SumsOf (f .products) (changeoverTableOf table (planOf f (now (s .entry)) .line) week) r ⌝ }
 {
-    let n = count(f.products);
+    let n = as_usize(f.products);
     let mut into = [0; 16];
+    let mut out = [0; 16];
     let mut from = 0;
     while from < n {
-        add_row(s, f, table, week, from, &mut into);
+        let sum = add_row(s, f, table, week, from, &mut into);
+        out[from] = sum;
         from += 1;
     }
-    into
-}
-
-// The sum out of a product.
-pub fn out_sum(s: &[u8], f: Shape, table: Passage, week: usize, product: usize) -> u64
-    requires { ⌜ (planForm f (now s) ≡ Good f) × (week < f .weeks) × (product < f .products) ⌝ }
-    ensures { λ r. ⌜ (r ≡ sumBelow (f .products) (passageOf table (planOf f (now (s .entry)) .line) week product)) × (r < 256) ⌝ }
-{
-    let n = count(f.products);
-    let mut sum: u8 = 0;
-    let mut i = 0;
-    while i < n {
-        sum += passes(s, f, table, week, product, i) as u8;
-        i += 1;
-    }
-    wide(sum)
+    ArcSums { into, out }
 }
 
 // The grams of a product sold in a week, over all customers.
@@ -307,19 +413,12 @@ pub fn sold(s: &[u8], f: Shape, week: usize, product: usize) -> u64
     requires { ⌜ (planForm f (now s) ≡ Good f) × (week < f .weeks) × (product < f .products) ⌝ }
     ensures { λ r. ⌜ (r ≡ sumBelow (f .customers) (λ c. planOf f (now (s .entry)) .sales c product week)) × (r < 2 ^ 40) ⌝ }
 {
-    let customers = count(f.customers);
-    let mut sum = 0;
-    let mut customer = 0;
-    while customer < customers {
-        sum += sales(s, f, customer, product, week);
-        customer += 1;
-    }
-    sum
+    customer_sum(s, f, SALES, product, week)
 }
 
-// Where the body in a place begins; place 12 is the file's end.
+// Where the body in a place begins; after the last place, where the file ends.
 pub fn section_start(f: Shape, place: usize) -> usize
-    requires { ⌜ place ≤ 12 ⌝ }
+    requires { ⌜ place ≤ planKind .sections ⌝ }
     ensures { λ r. ⌜ (r ≡ start (planLengths f) place) × (r < 2 ^ 32) ⌝ }
 {
     let lengths = body_lengths(f);
@@ -334,26 +433,16 @@ pub fn section_start(f: Shape, place: usize) -> usize
 
 // The length of a plan file.
 pub fn plan_length(f: Shape) -> usize
-    ensures { λ r. ⌜ (r ≡ start (planLengths f) 12) × (r < 2 ^ 32) ⌝ }
+    ensures { λ r. ⌜ (r ≡ start (planLengths f) (planKind .sections)) × (r < 2 ^ 32) ⌝ }
 {
-    section_start(f, 12)
+    section_start(f, SECTIONS)
 }
 
 // Stores the contents of a plan file.
 pub fn write_contents(out: &mut [u8], f: Shape)
-    requires { ⌜ 110 ≤ length (now out) ⌝ }
-    ensures { λ _. ⌜ now (out .exit) ≡ store (now (out .entry)) 0 (contentsBytes 2 21 (planLengths f)) ⌝ }
+    requires { ⌜ contentsLength planKind ≤ length (now out) ⌝ }
+    ensures { λ _. ⌜ now (out .exit) ≡ store (now (out .entry)) 0 (contentsBytes (planKind .number) (planKind .first) (planLengths f)) ⌝ }
 {
     let lengths = body_lengths(f);
-    contents::write_contents(out, 2, 21, &lengths);
-}
-
-// Stores numbers of k bytes, end to end, as the body in a place.
-pub fn write_section(out: &mut [u8], f: Shape, place: usize, k: usize, values: &[u64])
-    requires { ⌜ (place < 12) × (start (planLengths f) place + k * length (now values) ≤ length (now out)) ⌝ }
-    ensures { λ _. ⌜ now (out .exit) ≡ store (now (out .entry)) (start (planLengths f) place)
-        (encode k (length (now (values .entry))) (λ i. getD (now (values .entry)) i 0)) ⌝ }
-{
-    let at = section_start(f, place);
-    write_all(&mut out[at..], k, values);
+    contents::write_contents(out, KIND, FIRST, &lengths);
 }

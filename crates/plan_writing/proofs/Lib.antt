@@ -1,9 +1,8 @@
 pub mod Scatter
-pub mod WeekSums
+pub mod Zeros
+pub mod WeekRows
+pub mod Marks
+pub mod Amounts
 pub mod Rows
 pub mod RunWeeks
-pub mod WeekTables
-pub mod Once
-pub mod SalesBytes
-pub mod MarkCells
 pub mod Bodies

@@ -5,29 +5,18 @@ use mathlib.Core.List.{List, [], _∷_}
 use lib.ListN.{length, getD}
 use Rattle.mathematics.specs.Below.{sumBelow}
 use Rattle.numbers.specs.Signed.{unsignedOf}
+use Rattle.sections.specs.Layout.{layout}
+use Rattle.sections.specs.declared.Layout.{Layout}
 use Rattle.sections.specs.declared.Shape.{Shape}
 use Rattle.plant_file.specs.Plant.{plantOf}
+use Rattle.plan_file.specs.Form.{planLayout}
 use Rattle.plan_file.specs.Plan.{Plan}
 use Rattle.slot_file.specs.Slots.{slotsOf}
 use Rattle.model.specs.RunTables.{minutesOf}
 
--- how many bytes each number of the body in a place has
-unfoldable pub widthIn : ℕ → ℕ
-widthIn place = getD (1 ∷ 1 ∷ 1 ∷ 1 ∷ 1 ∷ 1 ∷ 2 ∷ 4 ∷ 4 ∷ 4 ∷ 4 ∷ 8 ∷ []) place 0
-
--- how many rows each body has: a row is a week, or a customer and product. Weeks w, customers and products cn
-abbrev pub rowCounts : (w cn : ℕ) → List ℕ
-rowCounts w cn = w ∷ w ∷ w ∷ w ∷ w ∷ w ∷ w ∷ w ∷ cn ∷ w ∷ cn ∷ 1 ∷ []
-
-unfoldable pub rowsIn : Shape → ℕ → ℕ
-rowsIn f place = getD (rowCounts (f .weeks) (f .customers * f .products)) place 0
-
--- and how many numbers each row: products n, products by products nn, weeks w
-abbrev pub columnCounts : (n nn w : ℕ) → List ℕ
-columnCounts n nn w = n ∷ n ∷ n ∷ nn ∷ nn ∷ n ∷ n ∷ n ∷ w ∷ n ∷ w ∷ 1 ∷ []
-
-unfoldable pub columnsIn : Shape → ℕ → ℕ
-columnsIn f place = getD (columnCounts (f .products) (f .products * f .products) (f .weeks)) place 0
+-- the layout of the body in a place
+unfoldable pub sectionOf : Shape → ℕ → Layout
+sectionOf f place = getD (planLayout f) place (layout 0 0 0)
 
 -- number j of row r of the body in a place
 unfoldable pub rowIn : Shape → Plan → (place r j : ℕ) → ℕ

@@ -1,3 +1,3 @@
-pub mod Run
+pub mod Ran
 pub mod Bodies
-pub mod Marks
+pub mod Line

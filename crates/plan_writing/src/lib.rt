@@ -2,7 +2,6 @@
 // number; inventory and backlog follow their balances.
 ghost use mathlib.Core.Path.{_≡_};
 ghost use mathlib.Core.List.{[]};
-ghost use mathlib.Core.Logic.{_≢_};
 ghost use Prim.Native.Nat.{ℕ, _+_, _*_, _-_, _/_, _%_, _≤_, _<_};
 ghost use lib.ListN.{length, getD, replicate};
 ghost use Rattle.mathematics.specs.Below.{is};
@@ -10,67 +9,61 @@ ghost use Rattle.numbers.specs.Number.{encode, store};
 ghost use Rattle.numbers.specs.Signed.{unsignedOf};
 ghost use Rattle.contents.specs.File.{start};
 ghost use Rattle.sections.specs.declared.Form.the-variants.{Good};
-ghost use Rattle.sections.specs.Section.{cube};
+ghost use Rattle.sections.specs.Layout.{planKind};
+ghost use Rattle.sections.specs.Limits.{mostStorage};
 ghost use Rattle.plant_file.specs.Plant.{plantOf};
 ghost use Rattle.plant_file.specs.Form.{plantForm};
 ghost use Rattle.plan_file.specs.Form.{planLengths};
 ghost use Rattle.plan_file.specs.File.{planBodies, planFile};
-ghost use Rattle.slot_file.specs.Slots.{slotsBefore, slotsOf};
+ghost use Rattle.slot_file.specs.Slots.{slotsOf, orderOfSlots};
 ghost use Rattle.slot_file.specs.Form.{slotForm};
-ghost use Rattle.model.specs.RunTables.{minutesOf, runTables};
+ghost use Rattle.costs.specs.Mounted.{mountedBelow};
+ghost use Rattle.model.specs.RunTables.{lastOf, mountedAt, runTables};
 ghost use Rattle.calls.specs.declared.Written.the-variants.{Length};
 ghost use Rattle.calls.specs.Answer.{bytes, planAnswer, writtenIn, outputAfter};
-ghost use Rattle.plan_writing.specs.Run.{Ran, WeekOf};
-ghost use Rattle.plan_writing.specs.Bodies.{widthIn, rowsIn, columnsIn, rowIn, Shows, Row, madeIn, soldIn};
-ghost use Rattle.plan_writing.specs.Marks.{later, shownFrom, shownTo, strideIn, marked};
+ghost use Rattle.plan_writing.specs.Ran.{Ran, WeekRow, slotsIn, Cleared};
+ghost use Rattle.plan_writing.specs.Bodies.{sectionOf, rowIn, Shows, Row, madeIn, soldIn};
+ghost use Rattle.plan_writing.specs.Line.{someMounted, fromOf, markedFrom, markedTo, strideIn, markRow, factorIn, amountRow};
 use calls::Written;
 use calls::refuse;
+use costs::Mounted;
+use costs::opening_mounted;
 use machine::Outcome;
 use machine::run;
-use machine::sold_of;
-use numbers::count;
+use numbers::as_usize;
 use numbers::unsigned;
 use numbers::write;
+use plan_file::layout;
 use plan_file::plan_length;
 use plan_file::section_start;
+use plant_file::demand_row;
 use plant_file::opening_inventory;
-use plant_file::pair_demand;
 use plant_file::pair_opening_backlog;
 use plant_file::plant_form;
 use plant_file::rate;
+use plant_file::week_demand;
 use sections::Form;
 use sections::Shape;
 use sections::area;
-use slot_file::pair_sales;
-use slot_file::slot_count;
+use slot_file::SlotRow;
+use slot_file::first_row;
+use slot_file::next_row;
+use slot_file::row_minutes;
+use slot_file::row_product;
+use slot_file::sales_row;
 use slot_file::slot_form;
-use slot_file::slot_minutes;
-use slot_file::slot_product;
-use slot_file::week_start;
+use slot_file::sold;
+use slot_file::week_sales;
+use units::Minutes;
 use units::Profit;
+use units::Rate;
+use units::produced;
 
 // 1 where two numbers are equal, else 0.
 fn same(a: usize, b: usize) -> u64
     ensures { λ r. ⌜ (r ≡ is a b) × (r ≤ 1) ⌝ }
 {
     if a == b { 1 } else { 0 }
-}
-
-// 0 for the first of several, else 1.
-fn later(n: usize) -> usize
-    ensures { λ r. ⌜ r ≡ later n ⌝ }
-{
-    if n == 0 { 0 } else { 1 }
-}
-
-// The slot before a slot; the first of all for itself.
-fn slot_before(j: usize) -> usize
-    ensures { λ r. ⌜ r ≡ j - 1 ⌝ }
-{
-    if j == 0 {
-        return 0;
-    }
-    j - 1
 }
 
 // Stores n bytes of 0.
@@ -85,30 +78,42 @@ fn clear(out: &mut [u8], n: usize)
     }
 }
 
-// The first slot of a week that E, F, L, Z, ZF or O shows, of `total` slots.
-fn shown_from(total: usize, place: usize) -> usize
-    requires { ⌜ (1 ≤ total) × (place < 6) ⌝ }
-    ensures { λ r. ⌜ r ≡ shownFrom total place ⌝ }
+// ---- A week's row of E, F, L, Z, ZF or O: the slots from one on up to another store a number in a cell each.
+
+// 1 where something is mounted, else 0.
+fn some_mounted(mounted: Mounted) -> usize
+    ensures { λ r. ⌜ r ≡ someMounted mounted ⌝ }
 {
-    if place == 2 {
+    match mounted {
+        Mounted::Nothing => 0,
+        Mounted::Product(_) => 1,
+    }
+}
+
+// The first slot that stores something, of `total`.
+fn marked_from(total: usize, place: usize) -> usize
+    requires { ⌜ (1 ≤ total) × (place < 6) ⌝ }
+    ensures { λ r. ⌜ r ≡ markedFrom total place ⌝ }
+{
+    if place == plan_file::LAST_MADE {
         return total - 1;
     }
-    if place == 3 {
+    if place == plan_file::CHANGEOVER {
         return 1;
     }
     0
 }
 
 // The slot after the last of these.
-fn shown_to(week: usize, total: usize, place: usize) -> usize
+fn marked_to(mounted: Mounted, total: usize, place: usize) -> usize
     requires { ⌜ place < 6 ⌝ }
-    ensures { λ r. ⌜ r ≡ shownTo week total place ⌝ }
+    ensures { λ r. ⌜ r ≡ markedTo mounted total place ⌝ }
 {
-    if place == 1 {
+    if place == plan_file::FIRST_MADE {
         return 1;
     }
-    if place == 4 {
-        return later(week);
+    if place == plan_file::WEEK_CHANGEOVER {
+        return some_mounted(mounted);
     }
     total
 }
@@ -118,163 +123,185 @@ fn stride_of(f: Shape, place: usize) -> usize
     requires { ⌜ place < 6 ⌝ }
     ensures { λ r. ⌜ (r ≡ strideIn (f .products) place) × (r ≤ 255) ⌝ }
 {
-    if place == 3 {
-        return count(f.products);
+    if place == plan_file::CHANGEOVER {
+        return as_usize(f.products);
     }
-    if place == 4 {
-        return count(f.products);
+    if place == plan_file::WEEK_CHANGEOVER {
+        return as_usize(f.products);
     }
     0
 }
 
-// Stores a week's table of E, F, L, Z, ZF or O; slot `first` is the week's first.
-fn write_marks(out: &mut [u8], slots: &[u8], f: Shape, place: usize, week: usize, first: usize)
-    requires { ⌜ WeekOf f (now slots) week first × (place < 6) × (columnsIn f place ≤ length (now out)) ⌝ }
-    ensures { λ _. ⌜ now (out .exit)
-        ≡ store (now (out .entry)) 0 (encode 1 (columnsIn f place) (marked (now (slots .entry)) (f .products) week place)) ⌝ }
+// The product that the line comes from to slot k: what is mounted, or the slot before.
+fn from_product(slots: &[u8], f: Shape, row: SlotRow, mounted: Mounted, k: usize) -> usize
+    requires { ⌜ WeekRow f (now slots) row × mountedBelow (f .products) mounted × (k ≤ row .count) ⌝ }
+    ensures { λ r. ⌜ (r ≡ fromOf mounted (orderOfSlots (slotsIn f (now (slots .entry)) row)) k) × (r < f .products) ⌝ }
 {
-    clear(out, columns_of(f, place));
-    let total = slot_count(slots, f, week);
+    if k == 0 {
+        return match mounted {
+            Mounted::Nothing => 0,
+            Mounted::Product(p) => as_usize(p),
+        };
+    }
+    row_product(slots, f, row, k - 1)
+}
+
+// Stores the row in bytes of 0.
+fn write_marks(out: &mut [u8], slots: &[u8], f: Shape, place: usize, row: SlotRow, mounted: Mounted)
+    requires { ⌜ WeekRow f (now slots) row × mountedBelow (f .products) mounted × (place < 6) × Cleared (sectionOf f place .columns) (now out) ⌝ }
+    ensures { λ _. ⌜ now (out .exit) ≡ store (now (out .entry)) 0
+        (encode 1 (sectionOf f place .columns) (markRow (f .products) mounted (orderOfSlots (slotsIn f (now (slots .entry)) row)) place)) ⌝ }
+{
     let stride = stride_of(f, place);
-    let rise = same(place, 5);
-    let end = shown_to(week, total, place);
-    let mut k = shown_from(total, place);
+    let rise = same(place, plan_file::POSITION);
+    let total = row.count;
+    let end = marked_to(mounted, total, place);
+    let mut k = marked_from(total, place);
+    let mut from = from_product(slots, f, row, mounted, k);
     while k < end {
-        let j = first + k;
-        let product = slot_product(slots, f, j);
-        let previous = slot_product(slots, f, slot_before(j));
-        write(out, stride * previous + product, 1, 1 + rise * (k as u64));
+        let product = row_product(slots, f, row, k);
+        write(out, stride * from + product, 1, 1 + rise * (k as u64));
+        from = product;
         k += 1;
     }
 }
 
-// Stores a week's row of T.
-fn write_minutes(out: &mut [u8], slots: &[u8], f: Shape, week: usize, first: usize)
-    requires { ⌜ WeekOf f (now slots) week first × (2 * f .products ≤ length (now out)) ⌝ }
-    ensures { λ _. ⌜ now (out .exit)
-        ≡ store (now (out .entry)) 0 (encode 2 (f .products) (minutesOf (slotsOf f (now (slots .entry)) .line .week week))) ⌝ }
+// ---- A week's row of T or P: each slot stores an amount in its product's cell.
+
+// What a run of a product stores: its minutes, or the grams that it makes.
+fn amount_of(plant: &[u8], f: Shape, place: usize, product: usize, minutes: u64) -> u64
+    requires { ⌜ (plantForm (now plant) ≡ Good f) × (product < f .products) × (minutes < 65536) ⌝ }
+    ensures { λ r. ⌜ r ≡ factorIn (plantOf f (now (plant .entry)) .line .rate) place product * minutes ⌝ }
 {
-    clear(out, 2 * count(f.products));
-    let total = slot_count(slots, f, week);
+    if place == plan_file::MINUTES {
+        return minutes;
+    }
+    let grams = produced(Rate(rate(plant, f, product)), Minutes(minutes));
+    grams.0
+}
+
+// Stores the row of numbers of `width` bytes, in bytes of 0.
+fn write_amounts(
+    out: &mut [u8],
+    plant: &[u8],
+    slots: &[u8],
+    f: Shape,
+    place: usize,
+    width: usize,
+    row: SlotRow,
+)
+    requires { ⌜ (plantForm (now plant) ≡ Good f) × WeekRow f (now slots) row × (width ≤ 8) × Cleared (width * f .products) (now out) ⌝ }
+    ensures { λ _. ⌜ now (out .exit) ≡ store (now (out .entry)) 0
+        (encode width (f .products) (amountRow (plantOf f (now (plant .entry)) .line .rate) place (slotsIn f (now (slots .entry)) row))) ⌝ }
+{
+    let total = row.count;
     let mut k = 0;
     while k < total {
-        let j = first + k;
-        let product = slot_product(slots, f, j);
-        let minutes = slot_minutes(slots, f, j);
-        write(out, 2 * product, 2, minutes);
+        let product = row_product(slots, f, row, k);
+        let minutes = row_minutes(slots, f, row, k);
+        let amount = amount_of(plant, f, place, product, minutes);
+        write(out, width * product, width, amount);
         k += 1;
     }
 }
 
-// Stores a week's row of P.
-fn write_production(out: &mut [u8], plant: &[u8], slots: &[u8], f: Shape, week: usize, first: usize)
-    requires { ⌜ (plantForm (now plant) ≡ Good f) × WeekOf f (now slots) week first × (4 * f .products ≤ length (now out)) ⌝ }
-    ensures { λ _. ⌜ now (out .exit) ≡ store (now (out .entry)) 0
-        (encode 4 (f .products) (λ i. plantOf f (now (plant .entry)) .line .rate i * minutesOf (slotsOf f (now (slots .entry)) .line .week week) i)) ⌝ }
+// ---- A line's table, week by week.
+
+// What is mounted after a week.
+fn mounted_after(slots: &[u8], f: Shape, row: SlotRow, mounted: Mounted) -> Mounted
+    requires { ⌜ WeekRow f (now slots) row × (f .products ≤ 16) ⌝ }
+    ensures { λ r. ⌜ r ≡ lastOf mounted (orderOfSlots (slotsIn f (now (slots .entry)) row)) ⌝ }
 {
-    clear(out, 4 * count(f.products));
-    let total = slot_count(slots, f, week);
-    let mut k = 0;
-    while k < total {
-        let j = first + k;
-        let product = slot_product(slots, f, j);
-        let minutes = slot_minutes(slots, f, j);
-        write(out, 4 * product, 4, rate(plant, f, product) * minutes);
-        k += 1;
+    let total = row.count;
+    if total == 0 {
+        return mounted;
     }
+    let product = row_product(slots, f, row, total - 1);
+    Mounted::Product(product as u8)
 }
 
-// Stores a customer's and product's row of Δ, from the opening on.
-fn write_backlog(out: &mut [u8], plant: &[u8], slots: &[u8], f: Shape, pair: usize)
-    requires { ⌜ Ran f (now plant) (now slots) × (pair < f .customers * f .products) × (4 * f .weeks ≤ length (now out)) ⌝ }
-    ensures { λ _. ⌜ now (out .exit) ≡ store (now (out .entry)) 0
-        (encode 4 (f .weeks) (runTables (plantOf f (now (plant .entry))) (slotsOf f (now (slots .entry)))
-        .backlog (pair / f .products) (pair % f .products))) ⌝ }
-{
-    let weeks = count(f.weeks);
-    let mut backlog = pair_opening_backlog(plant, f, pair);
-    let mut week = 0;
-    while week < weeks {
-        let due = backlog + pair_demand(plant, f, pair, week);
-        backlog = due - pair_sales(slots, f, pair, week);
-        write(out, 4 * week, 4, backlog);
-        week += 1;
-    }
-}
-
-// Stores row r of the body in a place; where it is a week, slot `first` is the week's first.
+// Stores a week's row, in bytes of 0.
 fn write_row(
     out: &mut [u8],
     plant: &[u8],
     slots: &[u8],
     f: Shape,
     place: usize,
-    r: usize,
-    first: usize,
+    width: usize,
+    row: SlotRow,
+    mounted: Mounted,
 )
-    requires { ⌜ Ran f (now plant) (now slots) × (place < 11) × (place ≢ 8) × (place ≢ 9) × (r < rowsIn f place)
-        × (place < 8 → first ≡ slotsBefore (now slots) r) × (widthIn place * columnsIn f place ≤ length (now out)) ⌝ }
+    requires { ⌜ Ran f (now plant) (now slots) × (place < 8) × (width ≡ sectionOf f place .width) × WeekRow f (now slots) row
+        × (mounted ≡ mountedAt (plantOf f (now plant)) (slotsOf f (now slots)) (row .week)) × Cleared (width * sectionOf f place .columns) (now out) ⌝ }
     ensures { λ _. ⌜ now (out .exit) ≡ store (now (out .entry)) 0
-        (encode (widthIn place) (columnsIn f place) (rowIn f (runTables (plantOf f (now (plant .entry))) (slotsOf f (now (slots .entry)))) place r)) ⌝ }
+        (encode width (sectionOf f place .columns) (rowIn f (runTables (plantOf f (now (plant .entry))) (slotsOf f (now (slots .entry)))) place (row .week))) ⌝ }
 {
-    if place == 6 {
-        return write_minutes(out, slots, f, r, first);
+    if place < plan_file::MINUTES {
+        return write_marks(out, slots, f, place, row, mounted);
     }
-    if place == 7 {
-        return write_production(out, plant, slots, f, r, first);
-    }
-    if place == 10 {
-        return write_backlog(out, plant, slots, f, r);
-    }
-    write_marks(out, slots, f, place, r, first)
+    write_amounts(out, plant, slots, f, place, width, row)
 }
 
-// The first slot of the week after row r, where row r is a week.
-fn first_after(slots: &[u8], f: Shape, place: usize, r: usize, first: usize) -> usize
-    requires { ⌜ (slotForm f (now slots) ≡ Good f) × (place < 8 → r < f .weeks) × (place < 8 → first ≡ slotsBefore (now slots) r) ⌝ }
-    ensures { λ q. ⌜ (place < 8 → q ≡ slotsBefore (now (slots .entry)) (r + 1)) ⌝ }
-{
-    if place < 8 {
-        return first + slot_count(slots, f, r);
-    }
-    first
-}
-
-// Stores a body row by row.
-fn write_rows(out: &mut [u8], plant: &[u8], slots: &[u8], f: Shape, place: usize)
-    requires { ⌜ Ran f (now plant) (now slots) × (place < 11) × (place ≢ 8) × (place ≢ 9) × (getD (planLengths f) place 0 ≤ length (now out)) ⌝ }
+// Stores one of the line's tables: E, F, L, Z, ZF, O, T or P.
+fn write_line(out: &mut [u8], plant: &[u8], slots: &[u8], f: Shape, place: usize)
+    requires { ⌜ Ran f (now plant) (now slots) × (place < 8) × (getD (planLengths f) place 0 ≤ length (now out)) ⌝ }
     ensures { λ _. ⌜ now (out .exit) ≡ store (now (out .entry)) 0
         (getD (planBodies f (runTables (plantOf f (now (plant .entry))) (slotsOf f (now (slots .entry))))) place []) ⌝ }
 {
-    let width = width_of(place);
-    let rows = rows_of(f, place);
-    let columns = columns_of(f, place);
-    let size = width * columns;
-    let mut first = 0;
+    let x = layout(f, place);
+    let width = x.width;
+    let size = width * x.columns;
+    let weeks = as_usize(f.weeks);
+    clear(out, size * weeks);
+    let mut row = first_row(slots, f);
+    let mut mounted = opening_mounted(plant, f);
     let mut p = 0;
-    let mut r = 0;
-    while r < rows {
-        write_row(&mut out[p..], plant, slots, f, place, r, first);
-        first = first_after(slots, f, place, r, first);
+    let mut week = 0;
+    while week < weeks {
+        write_row(&mut out[p..], plant, slots, f, place, width, row, mounted);
+        mounted = mounted_after(slots, f, row, mounted);
+        row = next_row(slots, f, row);
         p += size;
-        r += 1;
+        week += 1;
     }
 }
 
-// Stores S, which has the bytes of the slot file's sales.
-fn write_sales(out: &mut [u8], slots: &[u8], f: Shape)
-    requires { ⌜ (slotForm f (now slots) ≡ Good f) × (4 * (f .customers * f .products * f .weeks) ≤ length (now out)) ⌝ }
-    ensures { λ _. ⌜ now (out .exit)
-        ≡ store (now (out .entry)) 0 (cube 4 (f .customers) (f .products) (f .weeks) (slotsOf f (now (slots .entry)) .sales)) ⌝ }
+// ---- Δ, V and the file.
+
+// Stores a customer's and product's row of Δ, from the opening on.
+fn write_backlog_row(out: &mut [u8], plant: &[u8], slots: &[u8], f: Shape, pair: usize)
+    requires { ⌜ Ran f (now plant) (now slots) × (pair < f .customers * f .products) × (4 * f .weeks ≤ length (now out)) ⌝ }
+    ensures { λ _. ⌜ now (out .exit) ≡ store (now (out .entry)) 0
+        (encode 4 (f .weeks) (runTables (plantOf f (now (plant .entry))) (slotsOf f (now (slots .entry)))
+        .backlog (pair / f .products) (pair % f .products))) ⌝ }
 {
-    let weeks = count(f.weeks);
-    let total = week_start(slots, f, weeks);
-    let at = slot_file::section_start(f, total, 2);
-    let bytes = 4 * (area(f.customers, f.products) * weeks);
-    let mut i = 0;
-    while i < bytes {
-        out[i] = slots[at + i];
-        i += 1;
+    let weeks = as_usize(f.weeks);
+    let demand = demand_row(plant, f, pair);
+    let sales = sales_row(slots, f, pair);
+    let mut backlog = pair_opening_backlog(plant, f, pair);
+    let mut week = 0;
+    while week < weeks {
+        let due = backlog + week_demand(plant, f, demand, week);
+        backlog = due - week_sales(slots, f, sales, week);
+        write(out, 4 * week, 4, backlog);
+        week += 1;
+    }
+}
+
+// Stores Δ, pair by pair.
+fn write_backlog(out: &mut [u8], plant: &[u8], slots: &[u8], f: Shape)
+    requires { ⌜ Ran f (now plant) (now slots) × (getD (planLengths f) 10 0 ≤ length (now out)) ⌝ }
+    ensures { λ _. ⌜ now (out .exit) ≡ store (now (out .entry)) 0
+        (getD (planBodies f (runTables (plantOf f (now (plant .entry))) (slotsOf f (now (slots .entry))))) 10 []) ⌝ }
+{
+    let pairs = area(f.customers, f.products);
+    let size = 4 * as_usize(f.weeks);
+    let mut p = 0;
+    let mut pair = 0;
+    while pair < pairs {
+        write_backlog_row(&mut out[p..], plant, slots, f, pair);
+        p += size;
+        pair += 1;
     }
 }
 
@@ -283,7 +310,7 @@ fn opening_row(plant: &[u8], f: Shape) -> [u64; 26]
     requires { ⌜ plantForm (now plant) ≡ Good f ⌝ }
     ensures { λ r. ⌜ Row (f .products) (plantOf f (now (plant .entry)) .openingInventory) r ⌝ }
 {
-    let products = count(f.products);
+    let products = as_usize(f.products);
     let mut row = [0; 26];
     let mut i = 0;
     while i < products {
@@ -293,19 +320,20 @@ fn opening_row(plant: &[u8], f: Shape) -> [u64; 26]
     row
 }
 
-// Adds what each slot of a week makes to the number of its product; slot `first` is the week's first.
-fn add_production(row: &mut [u64], plant: &[u8], slots: &[u8], f: Shape, week: usize, first: usize)
-    requires { ⌜ (plantForm (now plant) ≡ Good f) × WeekOf f (now slots) week first × (f .products ≤ length (now row))
-        × ((i : ℕ) → i < f .products → getD (now row) i 0 ≤ 4000000000) ⌝ }
-    ensures { λ _. ⌜ Shows (f .products) (λ i. getD (now (row .entry)) i 0 + madeIn f (now (plant .entry)) (now (slots .entry)) week i) (now (row .exit)) ⌝ }
+// Adds what each slot of a week makes to the inventory of its product.
+fn add_production(inventory: &mut [u64], plant: &[u8], slots: &[u8], f: Shape, row: SlotRow)
+    requires { ⌜ (plantForm (now plant) ≡ Good f) × WeekRow f (now slots) row × (f .products ≤ length (now inventory))
+        × ((i : ℕ) → i < f .products → getD (now inventory) i 0 ≤ mostStorage) ⌝ }
+    ensures { λ _. ⌜ Shows (f .products) (λ i. getD (now (inventory .entry)) i 0 + madeIn f (now (plant .entry)) (now (slots .entry)) (row .week) i)
+        (now (inventory .exit)) ⌝ }
 {
-    let total = slot_count(slots, f, week);
+    let total = row.count;
     let mut k = 0;
     while k < total {
-        let j = first + k;
-        let product = slot_product(slots, f, j);
-        let minutes = slot_minutes(slots, f, j);
-        row[product] = row[product] + rate(plant, f, product) * minutes;
+        let product = row_product(slots, f, row, k);
+        let minutes = row_minutes(slots, f, row, k);
+        let grams = produced(Rate(rate(plant, f, product)), Minutes(minutes));
+        inventory[product] = inventory[product] + grams.0;
         k += 1;
     }
 }
@@ -318,10 +346,10 @@ fn write_inventory_row(out: &mut [u8], row: &mut [u64], slots: &[u8], f: Shape, 
         (encode 4 (f .products) (λ i. getD (now (row .entry)) i 0 - soldIn f (now (slots .entry)) week i)) ⌝ }
     ensures left { λ _. ⌜ Shows (f .products) (λ i. getD (now (row .entry)) i 0 - soldIn f (now (slots .entry)) week i) (now (row .exit)) ⌝ }
 {
-    let products = count(f.products);
+    let products = as_usize(f.products);
     let mut i = 0;
     while i < products {
-        let left = row[i] - sold_of(slots, f, i, week).0;
+        let left = row[i] - sold(slots, f, week, i);
         row[i] = left;
         write(out, 4 * i, 4, left);
         i += 1;
@@ -334,108 +362,53 @@ fn write_inventory(out: &mut [u8], plant: &[u8], slots: &[u8], f: Shape)
     ensures { λ _. ⌜ now (out .exit) ≡ store (now (out .entry)) 0
         (getD (planBodies f (runTables (plantOf f (now (plant .entry))) (slotsOf f (now (slots .entry))))) 9 []) ⌝ }
 {
-    let weeks = count(f.weeks);
-    let size = 4 * count(f.products);
-    let mut row = opening_row(plant, f);
-    let mut first = 0;
+    let weeks = as_usize(f.weeks);
+    let size = 4 * as_usize(f.products);
+    let mut inventory = opening_row(plant, f);
+    let mut row = first_row(slots, f);
     let mut p = 0;
     let mut week = 0;
     while week < weeks {
-        add_production(&mut row, plant, slots, f, week, first);
-        write_inventory_row(&mut out[p..], &mut row, slots, f, week);
-        first += slot_count(slots, f, week);
+        add_production(&mut inventory, plant, slots, f, row);
+        write_inventory_row(&mut out[p..], &mut inventory, slots, f, week);
+        row = next_row(slots, f, row);
         p += size;
         week += 1;
     }
 }
 
-// How many bytes each number of the body in a place has.
-fn width_of(place: usize) -> usize
-    requires { ⌜ place < 12 ⌝ }
-    ensures { λ r. ⌜ r ≡ widthIn place ⌝ }
-{
-    let widths = [1, 1, 1, 1, 1, 1, 2, 4, 4, 4, 4, 8];
-    widths[place]
-}
-
-// How many rows the body in a place has.
-fn rows_of(f: Shape, place: usize) -> usize
-    requires { ⌜ place < 12 ⌝ }
-    ensures { λ r. ⌜ r ≡ rowsIn f place ⌝ }
-{
-    let weeks = count(f.weeks);
-    let pairs = area(f.customers, f.products);
-    let counts = [
-        weeks,
-        weeks,
-        weeks,
-        weeks,
-        weeks,
-        weeks,
-        weeks,
-        weeks,
-        pairs,
-        weeks,
-        pairs,
-        1,
-    ];
-    counts[place]
-}
-
-// How many numbers each of these rows has.
-fn columns_of(f: Shape, place: usize) -> usize
-    requires { ⌜ place < 12 ⌝ }
-    ensures { λ r. ⌜ (r ≡ columnsIn f place) × (r ≤ 65025) ⌝ }
-{
-    let products = count(f.products);
-    let squares = area(f.products, f.products);
-    let weeks = count(f.weeks);
-    let counts = [
-        products,
-        products,
-        products,
-        squares,
-        squares,
-        products,
-        products,
-        products,
-        weeks,
-        products,
-        weeks,
-        1,
-    ];
-    counts[place]
-}
-
 // Stores the body in a place at the start of what is lent.
 fn write_body(out: &mut [u8], plant: &[u8], slots: &[u8], f: Shape, profit: u64, place: usize)
-    requires { ⌜ Ran f (now plant) (now slots) × (profit ≡ unsignedOf (runTables (plantOf f (now plant)) (slotsOf f (now slots)) .profit)) × (place < 12)
+    requires { ⌜ Ran f (now plant) (now slots) × (profit ≡ unsignedOf (runTables (plantOf f (now plant)) (slotsOf f (now slots)) .profit)) × (place < planKind .sections)
         × (getD (planLengths f) place 0 ≤ length (now out)) ⌝ }
     ensures { λ _. ⌜ now (out .exit) ≡ store (now (out .entry)) 0
         (getD (planBodies f (runTables (plantOf f (now (plant .entry))) (slotsOf f (now (slots .entry))))) place []) ⌝ }
 {
-    if place == 8 {
-        return write_sales(out, slots, f);
+    if place == plan_file::SALES {
+        return slot_file::write_sales(out, slots, f);
     }
-    if place == 9 {
+    if place == plan_file::INVENTORY {
         return write_inventory(out, plant, slots, f);
     }
-    if place == 11 {
+    if place == plan_file::BACKLOG {
+        return write_backlog(out, plant, slots, f);
+    }
+    if place == plan_file::PROFIT {
         return write(out, 0, 8, profit);
     }
-    write_rows(out, plant, slots, f, place)
+    write_line(out, plant, slots, f, place)
 }
 
 // Stores the plan file: its contents, then each body in its own stretch of the output.
 fn write_file(out: &mut [u8], plant: &[u8], slots: &[u8], f: Shape, profit: u64)
     requires { ⌜ Ran f (now plant) (now slots) × (profit ≡ unsignedOf (runTables (plantOf f (now plant)) (slotsOf f (now slots)) .profit))
-        × (start (planLengths f) 12 ≤ length (now out)) ⌝ }
+        × (start (planLengths f) (planKind .sections) ≤ length (now out)) ⌝ }
     ensures { λ _. ⌜ now (out .exit) ≡ store (now (out .entry)) 0
         (planFile f (runTables (plantOf f (now (plant .entry))) (slotsOf f (now (slots .entry))))) ⌝ }
 {
     plan_file::write_contents(out, f);
     let mut place = 0;
-    while place < 12 {
+    while place < plan_file::SECTIONS {
         let at = section_start(f, place);
         write_body(&mut out[at..], plant, slots, f, profit, place);
         place += 1;
@@ -445,8 +418,8 @@ fn write_file(out: &mut [u8], plant: &[u8], slots: &[u8], f: Shape, profit: u64)
 // Writes the file, and says its length.
 fn write_plan(out: &mut [u8], plant: &[u8], slots: &[u8], f: Shape, profit: u64) -> Written
     requires { ⌜ Ran f (now plant) (now slots) × (profit ≡ unsignedOf (runTables (plantOf f (now plant)) (slotsOf f (now slots)) .profit))
-        × (start (planLengths f) 12 ≤ length (now out)) ⌝ }
-    ensures { λ r. ⌜ (r ≡ Length (start (planLengths f) 12))
+        × (start (planLengths f) (planKind .sections) ≤ length (now out)) ⌝ }
+    ensures { λ r. ⌜ (r ≡ Length (start (planLengths f) (planKind .sections)))
         × (now (out .exit) ≡ store (now (out .entry)) 0 (planFile f (runTables (plantOf f (now (plant .entry))) (slotsOf f (now (slots .entry)))))) ⌝ }
 {
     write_file(out, plant, slots, f, profit);

@@ -1,6 +1,6 @@
 -- Numbers of one byte in a section. Assumes nothing.
 use Prim.Native.Nat.{ℕ, _+_, _*_}
-use mathlib.Core.Path.{_≡_, ap, _∙_}
+use mathlib.Core.Path.{_≡_, ap}
 use mathlib.Core.List.{List}
 use native.Mathlib.Omega.{arith}
 use lib.ListN.{getD}

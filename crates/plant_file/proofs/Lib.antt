@@ -2,4 +2,3 @@ pub mod Cells
 pub mod PlantReads
 pub mod PlantInRange
 pub mod PlantAccess
-pub mod Pairs

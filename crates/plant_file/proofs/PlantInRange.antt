@@ -1,12 +1,11 @@
 -- THE RANGES: every number of a good plant file is within the range that the paper gives it. Assumes nothing.
 use Prim.Native.Nat.{ℕ, _+_, _*_, _≤_, _<_}
-use mathlib.Core.Path.{_≡_, refl, sym, ap, _∙_}
-use mathlib.Core.Bool.{Bool, true, _&&_}
+use mathlib.Core.Path.{_≡_, ap}
+use mathlib.Core.Bool.{true, _&&_}
 use mathlib.Core.List.{List}
-use native.Mathlib.Omega.{arith}
 use lib.Dec.{leb, eqb}
 use borrow.Author.Tests.{leb-true, eqb-true}
-use Rattle.mathematics.specs.Below.{allBelow, within}
+use Rattle.mathematics.specs.Below.{within}
 use Rattle.mathematics.proofs.Below.{and-both, all-each, within-at}
 use Rattle.mathematics.proofs.Join.{table-below}
 use Rattle.contents.specs.Contents.{cell}
@@ -14,6 +13,7 @@ use Rattle.sections.specs.Section.{inRange, diagonalZero}
 use Rattle.sections.specs.declared.Shape.{Shape}
 use Rattle.sections.specs.declared.Form.the-variants.{Good}
 use Rattle.sections.proofs.Tables.{range-at, range-first, cube-below}
+use Rattle.sections.specs.Limits.{mostRate, mostChangeoverMinutes, mostChangeoverCents, mostDemand, mostUnitCost, mostStorage, mostOpeningBacklog}
 use Rattle.plant_file.specs.Plant.{lineOf, plantOf, rateIn, changeoverMinutesIn, changeoverCentsIn, demandIn, priceIn, backlogCostIn}
 use Rattle.plant_file.specs.Plant.{inventoryCostIn, leastStorageIn, greatestStorageIn, openingInventoryIn, openingBacklogIn, shortestRunIn, weekMinutesIn}
 use Rattle.plant_file.specs.Form.{inLimits, lineInRange, marketInRange, storageInRange, openingInRange, timeInRange, plantInRange, plantForm}
@@ -28,25 +28,25 @@ line-ranges : (s : List ℕ) (f : Shape) → lineInRange s f ≡ true → LineRa
 unfolding lineInRange rateIn changeoverMinutesIn changeoverCentsIn
 line-ranges s f h =
     let n = f .products in
-    let a = and-both (inRange 4 s 1 0 n 1 100000) _ h in
-    let b = and-both (inRange 2 s 2 0 (n * n) 0 10080) _ (a .1) in
+    let a = and-both (inRange 4 s 1 0 n 1 mostRate) _ h in
+    let b = and-both (inRange 2 s 2 0 (n * n) 0 mostChangeoverMinutes) _ (a .1) in
     let d = and-both (diagonalZero 2 s 2 n) _ (b .1) in
-    let e = and-both (inRange 4 s 3 0 (n * n) 0 1000000) _ (d .1) in
+    let e = and-both (inRange 4 s 3 0 (n * n) 0 mostChangeoverCents) _ (d .1) in
     record {
-      rate-least = λ i l. range-first 4 s 1 n 1 100000 (a .0) i l .0;
-      rate-most = λ i l. range-first 4 s 1 n 1 100000 (a .0) i l .1;
-      minutes-most = λ i j l m. range-first 2 s 2 (n * n) 0 10080 (b .0) (i * n + j) (table-below l m) .1;
+      rate-least = λ i l. range-first 4 s 1 n 1 mostRate (a .0) i l .0;
+      rate-most = λ i l. range-first 4 s 1 n 1 mostRate (a .0) i l .1;
+      minutes-most = λ i j l m. range-first 2 s 2 (n * n) 0 mostChangeoverMinutes (b .0) (i * n + j) (table-below l m) .1;
       minutes-diagonal = diagonal-at 2 s 2 n (d .0);
-      cents-most = λ i j l m. range-first 4 s 3 (n * n) 0 1000000 (e .0) (i * n + j) (table-below l m) .1;
+      cents-most = λ i j l m. range-first 4 s 3 (n * n) 0 mostChangeoverCents (e .0) (i * n + j) (table-below l m) .1;
       cents-diagonal = diagonal-at 4 s 3 n (e .1);
     }
 
 storage-at : (s : List ℕ) (n : ℕ) → storageInRange s n ≡ true → (i : ℕ) → i < n
-    → (cell 4 s 8 (2 * i) ≤ cell 4 s 8 (2 * i + 1)) × (cell 4 s 8 (2 * i + 1) ≤ 4000000000)
+    → (cell 4 s 8 (2 * i) ≤ cell 4 s 8 (2 * i + 1)) × (cell 4 s 8 (2 * i + 1) ≤ mostStorage)
 unfolding storageInRange
 storage-at s n h i l =
     let r = and-both (leb (cell 4 s 8 (2 * i)) (cell 4 s 8 (2 * i + 1))) _
-    (all-each n (λ j. leb (cell 4 s 8 (2 * j)) (cell 4 s 8 (2 * j + 1)) && leb (cell 4 s 8 (2 * j + 1)) 4000000000) h i l) in
+    (all-each n (λ j. leb (cell 4 s 8 (2 * j)) (cell 4 s 8 (2 * j + 1)) && leb (cell 4 s 8 (2 * j + 1)) mostStorage) h i l) in
     (leb-true _ _ (r .0), leb-true _ _ (r .1))
 
 pub plant-ranges : (s : List ℕ) (f : Shape) → plantForm s ≡ Good f → PlantRanges (plantOf f s)
@@ -64,10 +64,10 @@ plant-ranges s f good =
     let b = and-both (marketInRange s f) _ (a .1) in
     let d = and-both (storageInRange s n) _ (b .1) in
     let e = and-both (openingInRange s f) _ (d .1) in
-    let demand = and-both (inRange 4 s 4 0 (cn * f .weeks) 0 100000000) _ (b .0) in
-    let price = and-both (inRange 4 s 5 0 cn 0 100000) _ (demand .1) in
-    let costs = and-both (inRange 4 s 6 0 cn 0 100000) _ (price .1) in
-    let opening = and-both (inRange 4 s 9 0 n 0 4000000000) _ (e .0) in
+    let demand = and-both (inRange 4 s 4 0 (cn * f .weeks) 0 mostDemand) _ (b .0) in
+    let price = and-both (inRange 4 s 5 0 cn 0 mostUnitCost) _ (demand .1) in
+    let costs = and-both (inRange 4 s 6 0 cn 0 mostUnitCost) _ (price .1) in
+    let opening = and-both (inRange 4 s 9 0 n 0 mostStorage) _ (e .0) in
     let time = and-both (within 1 (cell 2 s 10 1) (cell 2 s 10 0)) _ (e .1) in
     let shortest = within-at 1 (cell 2 s 10 1) (cell 2 s 10 0) (time .0) in
     record {
@@ -78,14 +78,14 @@ plant-ranges s f good =
       weeks-least = limitW .0;
       weeks-most = limitW .1;
       line = line-ranges s f (a .0);
-      demand-most = λ c i w x y z. range-first 4 s 4 (cn * f .weeks) 0 100000000 (demand .0) ((c * n + i) * f .weeks + w) (cube-below x y z) .1;
-      price-most = λ c i x y. range-first 4 s 5 cn 0 100000 (price .0) (c * n + i) (table-below x y) .1;
-      backlog-cost-most = λ c i x y. range-first 4 s 6 cn 0 100000 (costs .0) (c * n + i) (table-below x y) .1;
-      inventory-cost-most = λ i x. range-first 4 s 7 n 0 100000 (costs .1) i x .1;
+      demand-most = λ c i w x y z. range-first 4 s 4 (cn * f .weeks) 0 mostDemand (demand .0) ((c * n + i) * f .weeks + w) (cube-below x y z) .1;
+      price-most = λ c i x y. range-first 4 s 5 cn 0 mostUnitCost (price .0) (c * n + i) (table-below x y) .1;
+      backlog-cost-most = λ c i x y. range-first 4 s 6 cn 0 mostUnitCost (costs .0) (c * n + i) (table-below x y) .1;
+      inventory-cost-most = λ i x. range-first 4 s 7 n 0 mostUnitCost (costs .1) i x .1;
       storage-ordered = λ i x. storage-at s n (d .0) i x .0;
       storage-most = λ i x. storage-at s n (d .0) i x .1;
-      opening-inventory-most = λ i x. range-first 4 s 9 n 0 4000000000 (opening .0) i x .1;
-      opening-backlog-most = λ c i x y. range-at 4 s 9 n cn 0 100000000 (opening .1) (c * n + i) (table-below x y) .1;
+      opening-inventory-most = λ i x. range-first 4 s 9 n 0 mostStorage (opening .0) i x .1;
+      opening-backlog-most = λ c i x y. range-at 4 s 9 n cn 0 mostOpeningBacklog (opening .1) (c * n + i) (table-below x y) .1;
       shortest-least = shortest .0;
       shortest-most = shortest .1;
       week-most = leb-true _ _ (time .1);

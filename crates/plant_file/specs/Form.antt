@@ -7,9 +7,12 @@ use Rattle.mathematics.specs.Below.{allBelow, within}
 use Rattle.contents.specs.Contents.{extent, cell, headed, placed, sized}
 use Rattle.sections.specs.Section.{inRange, diagonalZero}
 use Rattle.sections.specs.Rows.{row}
+use Rattle.sections.specs.Layout.{plantKind, layout, lengthsOf}
+use Rattle.sections.specs.declared.Layout.{Layout}
 use Rattle.sections.specs.declared.Shape.{Shape}
 use Rattle.sections.specs.declared.Form.{Form}
 use Rattle.sections.specs.declared.Form.the-variants.{Good}
+use Rattle.sections.specs.Limits.{mostProducts, mostCustomers, mostWeeks, mostRate, mostChangeoverMinutes, mostChangeoverCents, mostDemand, mostUnitCost, mostStorage, mostOpeningBacklog, mostWeekMinutes}
 
 -- section 1: N, C, W, a byte each
 unfoldable pub shapeOf : List ℕ → Shape
@@ -17,55 +20,59 @@ shapeOf s = record { products = cell 1 s 0 0; customers = cell 1 s 0 1; weeks = 
 
 -- row 2: no body misplaced, and section 1 is 3 long
 unfoldable pub laidOut : List ℕ → Bool
-laidOut s = placed s 11 && eqb (extent s 0) 3
+laidOut s = placed s (plantKind .sections) && eqb (extent s 0) 3
 
 -- row 3: N products (1 to 16), C customers (1 to 8), W weeks (1 to 26)
 unfoldable pub inLimits : Shape → Bool
-inLimits f = within 1 16 (f .products) && (within 1 8 (f .customers) && within 1 26 (f .weeks))
+inLimits f = within 1 mostProducts (f .products) && (within 1 mostCustomers (f .customers) && within 1 mostWeeks (f .weeks))
+
+-- sections 1 to 11. Section 10 has the opening inventory in its first row
+abbrev pub plantLayout : Shape → List Layout
+plantLayout f =
+    layout 1 1 3
+    ∷ layout 4 1 (f .products)
+    ∷ layout 2 (f .products) (f .products)
+    ∷ layout 4 (f .products) (f .products)
+    ∷ layout 4 (f .customers * f .products) (f .weeks)
+    ∷ layout 4 (f .customers) (f .products)
+    ∷ layout 4 (f .customers) (f .products)
+    ∷ layout 4 1 (f .products)
+    ∷ layout 4 (f .products) 2
+    ∷ layout 4 (1 + f .customers) (f .products)
+    ∷ layout 2 1 2
+    ∷ []
 
 -- row 4: the length of each body
 abbrev pub plantLengths : Shape → List ℕ
-plantLengths f =
-    3
-    ∷ (4 * f .products)
-    ∷ (2 * (f .products * f .products))
-    ∷ (4 * (f .products * f .products))
-    ∷ (4 * (f .customers * f .products * f .weeks))
-    ∷ (4 * (f .customers * f .products))
-    ∷ (4 * (f .customers * f .products))
-    ∷ (4 * f .products)
-    ∷ (8 * f .products)
-    ∷ (4 * f .products + 4 * (f .customers * f .products))
-    ∷ 4
-    ∷ []
+plantLengths f = lengthsOf (plantLayout f)
 
 -- row 5, sections 2 to 4: rates 1 to 100,000; changeover minutes 0 to 10,080 and cents 0 to 1,000,000, diagonals 0
 unfoldable pub lineInRange : List ℕ → Shape → Bool
 lineInRange s f =
-    inRange 4 s 1 0 (f .products) 1 100000
-    && (inRange 2 s 2 0 (f .products * f .products) 0 10080
+    inRange 4 s 1 0 (f .products) 1 mostRate
+    && (inRange 2 s 2 0 (f .products * f .products) 0 mostChangeoverMinutes
     && (diagonalZero 2 s 2 (f .products)
-    && (inRange 4 s 3 0 (f .products * f .products) 0 1000000 && diagonalZero 4 s 3 (f .products))))
+    && (inRange 4 s 3 0 (f .products * f .products) 0 mostChangeoverCents && diagonalZero 4 s 3 (f .products))))
 
 -- row 5, sections 5 to 8: demand up to 100,000,000; price, backlog cost and inventory cost up to 100,000
 unfoldable pub marketInRange : List ℕ → Shape → Bool
 marketInRange s f =
-    inRange 4 s 4 0 (f .customers * f .products * f .weeks) 0 100000000
-    && (inRange 4 s 5 0 (f .customers * f .products) 0 100000
-    && (inRange 4 s 6 0 (f .customers * f .products) 0 100000 && inRange 4 s 7 0 (f .products) 0 100000))
+    inRange 4 s 4 0 (f .customers * f .products * f .weeks) 0 mostDemand
+    && (inRange 4 s 5 0 (f .customers * f .products) 0 mostUnitCost
+    && (inRange 4 s 6 0 (f .customers * f .products) 0 mostUnitCost && inRange 4 s 7 0 (f .products) 0 mostUnitCost))
 
 -- row 5, section 9: product by product, least ≤ greatest ≤ 4,000,000,000
 unfoldable pub storageInRange : List ℕ → ℕ → Bool
-storageInRange s n = allBelow n (λ i. leb (cell 4 s 8 (2 * i)) (cell 4 s 8 (2 * i + 1)) && leb (cell 4 s 8 (2 * i + 1)) 4000000000)
+storageInRange s n = allBelow n (λ i. leb (cell 4 s 8 (2 * i)) (cell 4 s 8 (2 * i + 1)) && leb (cell 4 s 8 (2 * i + 1)) mostStorage)
 
 -- row 5, section 10: opening stock up to 4,000,000,000, then opening owed up to 100,000,000
 unfoldable pub openingInRange : List ℕ → Shape → Bool
 openingInRange s f =
-    inRange 4 s 9 0 (f .products) 0 4000000000 && inRange 4 s 9 (f .products) (f .customers * f .products) 0 100000000
+    inRange 4 s 9 0 (f .products) 0 mostStorage && inRange 4 s 9 (f .products) (f .customers * f .products) 0 mostOpeningBacklog
 
 -- row 5, section 11: 1 ≤ shortest ≤ week ≤ 10,080
 unfoldable pub timeInRange : List ℕ → Bool
-timeInRange s = within 1 (cell 2 s 10 1) (cell 2 s 10 0) && leb (cell 2 s 10 1) 10080
+timeInRange s = within 1 (cell 2 s 10 1) (cell 2 s 10 0) && leb (cell 2 s 10 1) mostWeekMinutes
 
 -- row 5: every number within its range
 unfoldable pub plantInRange : List ℕ → Shape → Bool
@@ -75,7 +82,7 @@ plantInRange s f =
 -- rows 1 to 5: a plant is a file of kind 1 with sections 1 to 11
 unfoldable pub plantForm : List ℕ → Form
 plantForm s =
-    row 1 (headed s 1 1 11)
+    row 1 (headed s (plantKind .number) (plantKind .first) (plantKind .sections))
     (row 2 (laidOut s)
     (row 3 (inLimits (shapeOf s))
     (row 4 (sized s (plantLengths (shapeOf s)))

@@ -1,17 +1,15 @@
--- The first line: its pieces, and its length; and the text that it begins. Assumes nothing.
+-- The first line: its pieces, and its length. Assumes nothing.
 use Prim.Native.Nat.{ℕ, _+_, _≤_}
-use mathlib.Core.Path.{_≡_, refl, sym}
-use mathlib.Core.List.{List, [], _∷_, _++_, append-nil}
+use mathlib.Core.Path.{_≡_, refl}
+use mathlib.Core.List.{[], _∷_, _++_}
 use native.Mathlib.Omega.{arith}
 use lib.IntN.{ℤ, pos, negsuc}
 use lib.ListN.{length, length-append}
 use Rattle.units.specs.declared.Profit.{Profit}
-use Rattle.plant_file.specs.Form.{plantForm}
-use Rattle.calls.specs.Check.{checkOf}
 use Rattle.calls.specs.declared.Check.{Check}
 use Rattle.calls.specs.declared.Check.the-variants.{Passed, Refused}
 use Rattle.report.specs.Text.{decimal, signedDecimal}
-use Rattle.report.specs.Report.{firstLine, shownLines, reportText}
+use Rattle.report.specs.Report.{firstLine}
 use Rattle.report.proofs.Decimal.{decimal-most}
 
 pub signed-most : (z : ℤ) → length (signedDecimal z) ≤ 21
@@ -31,13 +29,3 @@ pub first-most : (k : Check) → length (firstLine k) ≤ 29
 unfolding firstLine
 first-most (Passed q) = omega (arith, length-append (signedDecimal (q .0)) (10 ∷ []), signed-most (q .0))
 first-most (Refused n) = omega (arith, length-append (decimal n) (10 ∷ []), decimal-most n)
-
--- ---- the whole text
-module _ (plant plan : List ℕ) (k : Check) (e : k ≡ checkOf plant plan) where
-  pub passed-text : (q : Profit) → k ≡ Passed q → firstLine k ++ shownLines (plantForm plant) plant plan ≡ reportText plant plan
-  unfolding reportText
-  passed-text q h = rw (sym e, h)
-
-  pub refused-text : (n : ℕ) → k ≡ Refused n → firstLine k ≡ reportText plant plan
-  unfolding reportText
-  refused-text n h = rw (sym e, h) (sym (append-nil (firstLine (Refused n))))

@@ -1,5 +1,5 @@
 -- The lines of a week, slot by slot, and of the weeks. Assumes nothing.
-use Prim.Native.Nat.{ℕ, zero, suc, _+_, _-_, _<_, _≤_}
+use Prim.Native.Nat.{ℕ, zero, suc, _+_, _<_, _≤_}
 use mathlib.Core.Path.{_≡_, refl, ap}
 use mathlib.Core.List.{List, [], _∷_, _++_}
 use native.Mathlib.Omega.{arith}
@@ -15,14 +15,14 @@ use Rattle.plant_file.specs.Plant.{plantOf}
 use Rattle.plant_file.specs.Form.{plantForm}
 use Rattle.plant_file.proofs.PlantInRange.{plant-ranges}
 use Rattle.plan_file.specs.Plan.{planOf}
-use Rattle.machine.specs.declared.Mounted.{Mounted}
-use Rattle.machine.specs.declared.Mounted.the-variants.{Product}
-use Rattle.machine.specs.Machine.{changeoverTo}
-use Rattle.model.specs.Match.{slotsFor}
-use Rattle.slot_return.specs.Shown.{weekCount, weekProduct, weekSlots}
+use Rattle.costs.specs.declared.Mounted.{Mounted}
+use Rattle.costs.specs.declared.Mounted.the-variants.{Product}
+use Rattle.costs.specs.Changeover.{changeoverTo}
+use Rattle.model.specs.Match.{slotsFor, lineShown, slotsShown}
+use Rattle.passed_plan.specs.Shown.{weekCount, weekProduct, weekMounted, weekSlots}
 use Rattle.report.specs.Text.{line}
 use Rattle.report.specs.Report.{slotLines}
-use Rattle.report.specs.Shown.{mountedBefore, weekText}
+use Rattle.report.specs.Weeks.{weekText}
 
 pub few : (s : List ℕ) (f : Shape) → plantForm s ≡ Good f → (f .products ≤ 16) × (f .weeks ≤ 26)
 few s f good = let r = plant-ranges s f good in (r .products-most, r .weeks-most)
@@ -46,10 +46,10 @@ module _ (f : Shape) (plant plan : List ℕ) (w : ℕ) where
   week-drop : (k : ℕ) → k < weekCount f plan w → drop k (weekSlots f plan w)
       ≡ record { product = weekProduct f plan w k; minutes = planOf f plan .line .minutes w (weekProduct f plan w k) }
       ∷ drop (suc k) (weekSlots f plan w)
-  unfolding weekSlots weekCount weekProduct orderOf
+  unfolding slotsShown lineShown weekCount weekProduct orderOf
   week-drop k l = slots-drop (planOf f plan .line .minutes w) (weekCount f plan w) (weekProduct f plan w) k l
 
-  pub lines-all : weekText f plant plan w ≡ linesFrom f plant plan w (mountedBefore f plan w) 0 0
+  pub lines-all : weekText f plant plan w ≡ linesFrom f plant plan w (weekMounted f plant plan w) 0 0
   unfolding weekText
   lines-all = refl
 
@@ -61,14 +61,9 @@ module _ (f : Shape) (plant plan : List ℕ) (w : ℕ) where
   lines-next m t k product minutes change l p n c = rw (c, n, p, add-one k) (ap (slotLines (plantOf f plant) w m t) (week-drop k l))
 
   pub lines-end : (m : Mounted) (t : ℕ) → linesFrom f plant plan w m t (weekCount f plan w) ≡ []
-  unfolding weekSlots weekCount orderOf
+  unfolding slotsShown lineShown weekCount orderOf
   lines-end m t = ap (slotLines (plantOf f plant) w m t) (slots-end (planOf f plan .line .minutes w) (weekCount f plan w) _)
 
 -- a week's lines stand within those of all
 pub join-room : (n : ℕ) (g : ℕ → List ℕ) (w : ℕ) → w < n → length (joinBelow w g) + length (g w) ≤ length (joinBelow n g)
 join-room n g w l = omega (arith, join-length n g, join-length w g, sum-prefix n (λ i. length (g i)) (suc w) l)
-
--- what is mounted before a later week
-pub mounted-later : (f : Shape) (s : List ℕ) (v w n : ℕ) → w ≡ suc v → n ≡ weekCount f s v
-    → mountedBefore f s w ≡ Product (weekProduct f s v (n - 1))
-mounted-later f s v w n e c = rw (e, c)

@@ -1,4 +1,4 @@
 pub mod Text
 pub mod Stored
 pub mod Report
-pub mod Shown
+pub mod Weeks

@@ -2,17 +2,16 @@
 use Prim.Native.Nat.{ℕ, _+_}
 use mathlib.Core.List.{List, [], _∷_, _++_}
 use Rattle.mathematics.specs.Below.{joinBelow}
-use Rattle.sections.specs.declared.Form.{Form}
-use Rattle.sections.specs.declared.Form.the-variants as form
 use Rattle.plant_file.specs.Plant.{Plant, plantOf}
-use Rattle.plant_file.specs.Form.{plantForm}
-use Rattle.plan_file.specs.Plan.{planOf}
 use Rattle.slot_file.specs.Slots.{Slot, Slots}
-use Rattle.machine.specs.declared.Mounted.{Mounted}
-use Rattle.machine.specs.declared.Mounted.the-variants.{Product}
-use Rattle.machine.specs.Machine.{changeoverTo}
-use Rattle.machine.specs.Run.{after}
-use Rattle.model.specs.Match.{slotsShown}
+use Rattle.costs.specs.declared.Mounted.{Mounted}
+use Rattle.costs.specs.declared.Mounted.the-variants.{Product}
+use Rattle.costs.specs.Changeover.{changeoverTo}
+use Rattle.model.specs.RunTables.{mountedAt}
+use Rattle.passed_plan.specs.declared.Judgement.{Judgement}
+use Rattle.passed_plan.specs.declared.Judgement.the-variants as judgement
+use Rattle.passed_plan.specs.Judgement.{judgementOf}
+use Rattle.passed_plan.specs.Shown.{shownIn}
 use Rattle.calls.specs.declared.Check.{Check}
 use Rattle.calls.specs.declared.Check.the-variants.{Passed, Refused}
 use Rattle.calls.specs.Check.{checkOf}
@@ -28,7 +27,7 @@ slotLines P w m t (x ∷ xs) =
     ++ slotLines P w (Product (x .product)) (t + change + x .minutes) xs
 
 unfoldable pub weekLines : Plant → Slots → List ℕ
-weekLines P S = joinBelow (P .weeks) (λ w. slotLines P w (after P S w .mounted) 0 (S .line .week w))
+weekLines P S = joinBelow (P .weeks) (λ w. slotLines P w (mountedAt P S w) 0 (S .line .week w))
 
 -- "passed " and the profit in mc; "refused " and the number
 unfoldable pub firstLine : Check → List ℕ
@@ -36,13 +35,9 @@ firstLine (Passed q) = 112 ∷ 97 ∷ 115 ∷ 115 ∷ 101 ∷ 100 ∷ 32 ∷ (si
 firstLine (Refused n) = 114 ∷ 101 ∷ 102 ∷ 117 ∷ 115 ∷ 101 ∷ 100 ∷ 32 ∷ (decimal n ++ (10 ∷ []))
 
 -- the slots of a plan that passes; "A refusal prints `refused` and its number alone."
-abbrev pub linesAfter : Check → List ℕ → List ℕ
-linesAfter (Passed q) rest = rest
-linesAfter (Refused n) rest = []
-
-abbrev pub shownLines : Form → (plant plan : List ℕ) → List ℕ
-shownLines (form.Good f) plant plan = weekLines (plantOf f plant) (slotsShown (plantOf f plant) (planOf f plan))
-shownLines (form.Refused n) plant plan = []
+abbrev pub linesOf : Judgement → (plant plan : List ℕ) → List ℕ
+linesOf (judgement.Passed p) plant plan = weekLines (plantOf (p .shape) plant) (shownIn (p .shape) plan)
+linesOf (judgement.Refused n) plant plan = []
 
 unfoldable pub reportText : (plant plan : List ℕ) → List ℕ
-reportText plant plan = firstLine (checkOf plant plan) ++ linesAfter (checkOf plant plan) (shownLines (plantForm plant) plant plan)
+reportText plant plan = firstLine (checkOf plant plan) ++ linesOf (judgementOf plant plan) plant plan

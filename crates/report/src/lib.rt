@@ -1,28 +1,25 @@
 // The text of planreport. Each writer stores its text in the lent output from a position on, and answers the position behind it.
 ghost use mathlib.Core.Path.{_≡_};
 ghost use mathlib.Core.List.{[], _∷_, _++_};
-ghost use Prim.Native.Nat.{ℕ, _+_, _≤_, _<_};
+ghost use Prim.Native.Nat.{_+_, _≤_, _<_};
 ghost use lib.IntN.{natAbs};
 ghost use lib.ListN.{length};
 ghost use Rattle.mathematics.specs.Below.{joinBelow};
 ghost use Rattle.numbers.specs.Number.{store};
-ghost use Rattle.plant_file.specs.Form.{plantForm};
-ghost use Rattle.machine.specs.Bounds.{mountedBelow};
-ghost use Rattle.slot_return.specs.Shown.{weekCount, Ordered};
 ghost use Rattle.report.specs.Text.{decimal, signedDecimal, line};
 ghost use Rattle.report.specs.Stored.{Stored};
-ghost use Rattle.report.specs.Report.{firstLine, shownLines, reportText};
-ghost use Rattle.report.specs.Shown.{mountedBefore, weekText, Passes, Shown};
+ghost use Rattle.report.specs.Report.{firstLine, reportText};
+ghost use Rattle.report.specs.Weeks.{weekText, Ready};
 use calls::Check;
-use calls::check_plan;
-use machine::Mounted;
-use machine::changeover_to;
-use numbers::count;
-use plant_file::plant_form;
-use sections::Form;
+use costs::Mounted;
+use costs::changeover_to;
+use numbers::as_usize;
+use passed_plan::Judgement;
+use passed_plan::judge_files;
+use passed_plan::mounted_product;
+use passed_plan::product_at;
+use passed_plan::week_count;
 use sections::Shape;
-use slot_return::product_at;
-use slot_return::week_count;
 
 fn write_byte(out: &mut [u8], at: usize, byte: u8) -> usize
     requires { ⌜ at < length (now out) ⌝ }
@@ -126,26 +123,12 @@ fn write_line(
     write_field(out, d, end, 10)
 }
 
-// What is mounted before a week.
-fn mounted_before(plan: &[u8], f: Shape, week: usize) -> Mounted
-    requires { ⌜ Ordered f (now plan) × (week < f .weeks) × ((w : ℕ) → w < f .weeks → 1 ≤ weekCount f (now plan) w) ⌝ }
-    ensures { λ r. ⌜ (r ≡ mountedBefore f (now (plan .entry)) week) × mountedBelow (f .products) r ⌝ }
-{
-    if week == 0 {
-        return Mounted::Nothing;
-    }
-    let before = week - 1;
-    let last = week_count(plan, f, before) - 1;
-    let product = product_at(plan, f, before, last);
-    Mounted::Product(product as u8)
-}
-
 fn write_week(out: &mut [u8], at: usize, plant: &[u8], plan: &[u8], f: Shape, week: usize) -> usize
-    requires { ⌜ Shown f (now plant) (now plan) × (week < f .weeks) × (at + length (weekText f (now plant) (now plan) week) ≤ length (now out)) ⌝ }
+    requires { ⌜ Ready f (now plant) (now plan) × (week < f .weeks) × (at + length (weekText f (now plant) (now plan) week) ≤ length (now out)) ⌝ }
     ensures { λ r. ⌜ Stored (now (out .entry)) at (weekText f (now (plant .entry)) (now (plan .entry)) week) r (now (out .exit)) ⌝ }
 {
     let n = week_count(plan, f, week);
-    let mut mounted = mounted_before(plan, f, week);
+    let mut mounted = mounted_product(plant, plan, f, week);
     let mut clock = 0;
     let mut p = at;
     let mut k = 0;
@@ -165,10 +148,10 @@ fn write_week(out: &mut [u8], at: usize, plant: &[u8], plan: &[u8], f: Shape, we
 }
 
 fn write_weeks(out: &mut [u8], at: usize, plant: &[u8], plan: &[u8], f: Shape) -> usize
-    requires { ⌜ Shown f (now plant) (now plan) × (at + length (joinBelow (f .weeks) (weekText f (now plant) (now plan))) ≤ length (now out)) ⌝ }
+    requires { ⌜ Ready f (now plant) (now plan) × (at + length (joinBelow (f .weeks) (weekText f (now plant) (now plan))) ≤ length (now out)) ⌝ }
     ensures { λ r. ⌜ Stored (now (out .entry)) at (joinBelow (f .weeks) (weekText f (now (plant .entry)) (now (plan .entry)))) r (now (out .exit)) ⌝ }
 {
-    let weeks = count(f.weeks);
+    let weeks = as_usize(f.weeks);
     let mut p = at;
     let mut week = 0;
     while week < weeks {
@@ -196,27 +179,18 @@ fn write_first(out: &mut [u8], check: Check) -> usize
     }
 }
 
-// The lines of a plan that passes.
-fn write_shown(out: &mut [u8], at: usize, plant: &[u8], plan: &[u8]) -> usize
-    requires { ⌜ Passes (now plant) (now plan) × (at + 9984 ≤ length (now out)) ⌝ }
-    ensures { λ r. ⌜ Stored (now (out .entry)) at (shownLines (plantForm (now (plant .entry))) (now (plant .entry)) (now (plan .entry))) r (now (out .exit))
-        × (r ≤ at + 9984) ⌝ }
-{
-    match plant_form(plant) {
-        Form::Good(f) => write_weeks(out, at, plant, plan, f),
-        Form::Refused(_) => at,
-    }
-}
-
 // What planreport prints of a plant file and a plan file: its length.
 pub fn report_text(plant: &[u8], plan: &[u8], out: &mut [u8; 16384]) -> usize
     ensures { λ r. ⌜ (r ≤ length (now (out .exit))) × (r ≡ length (reportText (now (plant .entry)) (now (plan .entry))))
         × (now (out .exit) ≡ store (now (out .entry)) 0 (reportText (now (plant .entry)) (now (plan .entry)))) ⌝ }
 {
-    let check = check_plan(plant, plan);
-    let p = write_first(out, check);
-    match check {
-        Check::Passed(_) => write_shown(out, p, plant, plan),
-        Check::Refused(_) => p,
+    match judge_files(plant, plan) {
+        Judgement::Refused(n) => write_first(out, Check::Refused(n)),
+        Judgement::Passed(p) => {
+            let f = p.shape;
+            let profit = p.profit;
+            let at = write_first(out, Check::Passed(profit));
+            write_weeks(out, at, plant, plan, f)
+        }
     }
 }

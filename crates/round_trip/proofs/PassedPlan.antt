@@ -1,7 +1,7 @@
 -- What the demands say of a plan that passes: which bytes slot return and plan writing answer with. Assumes nothing.
 use Prim.Native.Nat.{ℕ, _≤_}
 use mathlib.Core.Path.{_≡_, refl, sym, ap, _∙_}
-use mathlib.Core.List.{List, [], _++_, append-nil}
+use mathlib.Core.List.{List, _++_, append-nil}
 use native.Mathlib.Omega.{arith}
 use lib.ListN.{length, take, drop}
 use lib.Seq.{drop-length, take-length}
@@ -25,7 +25,8 @@ written-read b out after m a e w l = let r = written-back b out m (rw e at w) in
 
 -- an answer that leaves b at the start of every output as long is b
 answer-is : (a : Answer) (b : List ℕ)
-    → ((out : List ℕ) → length b ≤ length out → (writtenIn a out ≡ written.Length (length b)) × (outputAfter a out ≡ b ++ drop (length b) out)) → a ≡ bytes b
+    → ((out : List ℕ) → length b ≤ length out → (writtenIn a out ≡ written.Length (length b)) × (outputAfter a out ≡ b ++ drop (length b) out))
+    → a ≡ bytes b
 unfolding writtenIn
 answer-is (bytes c) b h =
     let e = h b (omega arith) in

@@ -1,4 +1,5 @@
 pub mod Weeks
 pub mod Profits
-pub mod PlaceRules
+pub mod ProductRules
 pub mod Trials
+pub mod Words

@@ -1,18 +1,18 @@
 -- Signed money: a profit is compared exactly, and the profit is what is gained less what is lost. Assumes nothing.
-use Prim.Native.Nat.{ℕ, zero, suc, _+_, _-_, _^_, _<_}
+use Prim.Native.Nat.{ℕ, zero, suc, _+_, _*_, _/_, _%_, _-_, _^_, _<_}
 use mathlib.Core.Path.{_≡_, refl, sym, ap, _∙_}
 use mathlib.Core.Bool.{Bool, true, false, cond}
 use mathlib.Core.List.{List}
 use native.Mathlib.Omega.{arith}
 use borrow.Author.Tests.{eq-eqb, ne-eqb}
 use lib.Dec.{eqb, ltb}
-use lib.IntN.{ℤ, pos, negsuc, negℤ, _+ℤ_, _-ℤ_, +ℤ-assoc, negℤ-+ℤ, ℤ-discrete}
+use lib.IntN.{ℤ, pos, negsuc, _-ℤ_, ℤ-discrete}
 use lib.Signed.{mag}
 use mir.Syntax.{w64}
 use mir.Val.{SFits, toZ, ofZ}
 use mir.ValLaws.{toZ-ofZ}
 use Rattle.mathematics.specs.Below.{sumBelow}
-use Rattle.mathematics.proofs.Below.{sum-add}
+use Rattle.mathematics.proofs.Tables.{sum-priced}
 use Rattle.numbers.specs.Number.{Bytes}
 use Rattle.sections.specs.declared.Shape.{Shape}
 use Rattle.sections.specs.declared.Form.the-variants.{Good}
@@ -20,8 +20,8 @@ use Rattle.plant_file.specs.Plant.{Plant}
 use Rattle.plan_file.specs.Plan.{Plan, planOf}
 use Rattle.plan_file.specs.Form.{planForm}
 use Rattle.plan_file.proofs.PlanReads.{plan-fits}
-use Rattle.rules.specs.Rules.{sameInteger, salesOf, changeoversOf, backlogOf, inventoryOf, profitOf, rule41}
-use Rattle.rules.specs.Places.{costsOf}
+use Rattle.units.proofs.Signed.{lose-lose}
+use Rattle.rules.specs.Rules.{sameInteger, revenueIn, changeoverChargeIn, backlogChargeIn, inventoryChargeIn, profitOf, rule41}
 
 -- ---- the difference of two numbers below 2 ^ 63
 pos-back : (n : ℕ) → n < 2 ^ 63 → toZ w64 n ≡ pos n
@@ -36,7 +36,7 @@ difference-fits a zero h k = record { sfits = omega arith }
 difference-fits a (suc b) h k = record { sfits = cond-small a b (ltb a (suc b)) h (omega arith) }
 
 -- ---- equal integers
-same-yes : (a : ℤ) → sameInteger a a ≡ true
+pub same-yes : (a : ℤ) → sameInteger a a ≡ true
 same-yes (pos a) = eq-eqb a a refl
 same-yes (negsuc a) = eq-eqb a a refl
 
@@ -65,24 +65,35 @@ module _ (z : ℤ) (a b : ℕ) (h : a < 2 ^ 63) (k : b < 2 ^ 63) where
   pub profit-same : SFits w64 z → eqb (ofZ w64 z) (ofZ w64 (toZ w64 a -ℤ toZ w64 b)) ≡ sameInteger z (pos a -ℤ pos b)
   profit-same f = rw (pos-back a h, pos-back b k) (same-bits z (pos a -ℤ pos b) f (difference-fits a b h k))
 
--- ---- the profit over n weeks
-minus-both : (z : ℤ) (b c : ℕ) → z -ℤ pos b -ℤ pos c ≡ z -ℤ pos (b + c)
-minus-both z b c = +ℤ-assoc z (negℤ (pos b)) (negℤ (pos c)) ∙ ap (λ (y : ℤ). z +ℤ y) (sym (negℤ-+ℤ (pos b) (pos c)))
-
-pub profit-sums : (P : Plant) (x : Plan) (n : ℕ) → profitOf P x n ≡ pos (sumBelow n (salesOf P x)) -ℤ pos (sumBelow n (costsOf P x))
-unfolding profitOf costsOf
+-- ---- the profit over all weeks
+-- what is gained, less the three sums lost
+pub profit-sums : (P : Plant) (x : Plan) (n : ℕ)
+    → profitOf P x n ≡ pos (sumBelow n (revenueIn P x))
+    -ℤ pos (sumBelow n (changeoverChargeIn P x) + sumBelow n (inventoryChargeIn P x) + sumBelow n (backlogChargeIn P x))
+unfolding profitOf
 profit-sums P x n =
-    rw (
-      sum-add n (λ w. changeoversOf P x w + backlogOf P x w) (inventoryOf P x),
-      sum-add n (changeoversOf P x) (backlogOf P x),
-      minus-both (pos (sumBelow n (salesOf P x))) (sumBelow n (changeoversOf P x)) (sumBelow n (backlogOf P x)),
-      minus-both (pos (sumBelow n (salesOf P x))) (sumBelow n (changeoversOf P x) + sumBelow n (backlogOf P x)) (sumBelow n (inventoryOf P x)),
-    )
+    let gained = pos (sumBelow n (revenueIn P x)) in
+    let over = sumBelow n (changeoverChargeIn P x) in
+    let late = sumBelow n (backlogChargeIn P x) in
+    let held = sumBelow n (inventoryChargeIn P x) in
+    let e : over + late + held ≡ over + held + late = omega arith in
+    rw (lose-lose gained over late, lose-lose gained (over + late) held, e)
 
--- rule 41, by the sums over the weeks
-pub rule41-is : (P : Plant) (x : Plan) (z : ℤ) (a b n : ℕ) → z ≡ x .profit → a ≡ sumBelow n (salesOf P x) → b ≡ sumBelow n (costsOf P x)
-    → n ≡ P .weeks → sameInteger z (pos a -ℤ pos b) ≡ rule41 P x
+-- rule 41, by what is gained and lost
+pub rule41-is : (P : Plant) (x : Plan) (z : ℤ) (a b : ℕ) → z ≡ x .profit → a ≡ sumBelow (P .weeks) (revenueIn P x)
+    → b ≡ sumBelow (P .weeks) (changeoverChargeIn P x) + sumBelow (P .weeks) (inventoryChargeIn P x) + sumBelow (P .weeks) (backlogChargeIn P x)
+    → sameInteger z (pos a -ℤ pos b) ≡ rule41 P x
 unfolding rule41
-rule41-is P x z a b n p g l e =
-    (λ u. sameInteger (p u) (pos (g u) -ℤ pos (l u)))
-    ∙ (ap (sameInteger (x .profit)) (sym (profit-sums P x n)) ∙ ap (λ (k : ℕ). sameInteger (x .profit) (profitOf P x k)) e)
+rule41-is P x z a b p g l = (λ u. sameInteger (p u) (pos (g u) -ℤ pos (l u))) ∙ ap (sameInteger (x .profit)) (sym (profit-sums P x (P .weeks)))
+
+-- the market over all weeks, pair by pair
+module _ (P : Plant) (x : Plan) where
+  pub sales-by-pair : sumBelow (P .weeks) (revenueIn P x)
+      ≡ sumBelow (P .customers * P .products) (λ k. P .price (k / P .products) (k % P .products) * sumBelow (P .weeks) (x .sales (k / P .products) (k % P .products)))
+  unfolding revenueIn
+  sales-by-pair = sum-priced (P .weeks) (P .customers) (P .products) (P .price) (x .sales)
+
+  pub backlog-by-pair : sumBelow (P .weeks) (backlogChargeIn P x)
+      ≡ sumBelow (P .customers * P .products) (λ k. P .backlogCost (k / P .products) (k % P .products) * sumBelow (P .weeks) (x .backlog (k / P .products) (k % P .products)))
+  unfolding backlogChargeIn
+  backlog-by-pair = sum-priced (P .weeks) (P .customers) (P .products) (P .backlogCost) (x .backlog)

@@ -1,28 +1,25 @@
 -- The first week and the later ones, where a rule looks at the week before. Assumes nothing.
 use Prim.Native.Nat.{ℕ, zero, suc, _-_, _≤_}
 use mathlib.Core.Path.{_≡_, refl}
-use mathlib.Core.Bool.{_&&_}
 use native.Mathlib.Omega.{arith}
-use lib.Dec.{eqb}
-use Rattle.mathematics.specs.Below.{sumBelow}
-use Rattle.plant_file.specs.Plant.{Plant}
+use Rattle.plant_file.specs.Plant.{LinePlant, Plant}
 use Rattle.plan_file.specs.Plan.{LinePlan, Plan}
-use Rattle.rules.specs.Rules.{inventoryBefore}
-use Rattle.rules.specs.Places.{passageAt}
+use Rattle.costs.specs.Mounted.{isMounted, openingMounted}
+use Rattle.rules.specs.Rules.{mountedBefore, inventoryBefore}
 
 before : (w : ℕ) → suc w - 1 ≡ w
 before w = omega arith
 
-pub passage-first : (into N : ℕ) (x : LinePlan) (w i : ℕ) → w ≡ 0 → passageAt into N x w i ≡ eqb (sumBelow N (λ j. x .weekChangeover w i j)) 0
-unfolding passageAt
-passage-first into N x zero i e = refl
-passage-first into N x (suc w) i e = absurd (omega arith)
+module _ (l : LinePlant) (x : LinePlan) where
+  pub mounted-first : (w i : ℕ) → w ≡ 0 → mountedBefore l x w i ≡ isMounted (openingMounted l) i
+  unfolding mountedBefore
+  mounted-first zero i e = refl
+  mounted-first (suc w) i e = absurd (omega arith)
 
-pub passage-later : (into N : ℕ) (x : LinePlan) (w i : ℕ) → 1 ≤ w
-    → passageAt into N x w i ≡ (eqb into (x .first w i) && eqb (sumBelow N (λ j. x .weekChangeover w i j)) (x .last (w - 1) i))
-unfolding passageAt
-passage-later into N x zero i h = absurd (omega arith)
-passage-later into N x (suc w) i h = rw (before w)
+  pub mounted-later : (w i : ℕ) → 1 ≤ w → mountedBefore l x w i ≡ x .last (w - 1) i
+  unfolding mountedBefore
+  mounted-later zero i h = absurd (omega arith)
+  mounted-later (suc w) i h = rw (before w)
 
 module _ (P : Plant) (x : Plan) where
   pub inventory-first : (w i : ℕ) → w ≡ 0 → inventoryBefore P x w i ≡ P .openingInventory i

@@ -1,3 +1,4 @@
 pub mod Rules
 pub mod Verdict
-pub mod Places
+pub mod Products
+pub mod Words

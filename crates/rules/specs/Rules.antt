@@ -1,5 +1,5 @@
--- The model's rules 33 and 35 to 41, in the paper's words. Rules 31, 32 and 34 are of one week's tables and stand in `mathematics`.
--- Assumes nothing.
+-- The model's rules 33 and 35 to 41, in the paper's words. Rules 31, 32 and 34 are of one week's tables and stand in `mathematics`. The rules
+-- of a line, up to 36, take the line's own numbers and tables. Assumes nothing.
 use Prim.Native.Nat.{ℕ, zero, suc, _+_, _*_}
 use mathlib.Core.Bool.{Bool, true, false, _&&_}
 use lib.Dec.{eqb, leb}
@@ -8,37 +8,45 @@ use Rattle.mathematics.specs.Below.{sumBelow, allBelow, within}
 use Rattle.mathematics.specs.Week.{WeekTables}
 use Rattle.plant_file.specs.Plant.{LinePlant, Plant}
 use Rattle.plan_file.specs.Plan.{LinePlan, Plan}
+use Rattle.costs.specs.Mounted.{isMounted, openingMounted}
+use Rattle.costs.specs.Changeover.{changeoverBetween}
+use Rattle.costs.specs.Money.{revenueOf, backlogChargeOf, inventoryChargeOf, changeoverChargeOf}
 
 -- the tables of week w
 unfoldable pub weekOf : LinePlan → ℕ → WeekTables
 weekOf x w =
     record { assigned = x .assigned w; first = x .first w; last = x .last w; position = x .position w; changeover = x .changeover w }
 
--- 33: "ZF of week 0 is 0; later, into j it sums to F of j, out of i to L of i in the week before"
-unfoldable pub rule33 : ℕ → LinePlan → ℕ → Bool
-rule33 N x zero = allBelow N (λ i. allBelow N (λ j. eqb (x .weekChangeover 0 i j) 0))
-rule33 N x (suc w) =
-    allBelow N (λ j. eqb (sumBelow N (λ i. x .weekChangeover (suc w) i j)) (x .first (suc w) j))
-    && allBelow N (λ i. eqb (sumBelow N (λ j. x .weekChangeover (suc w) i j)) (x .last w i))
+-- what is mounted on the line before week w, as 1 at that product: at first what the opening has, later "L .. in the week before"
+unfoldable pub mountedBefore : LinePlant → LinePlan → ℕ → ℕ → ℕ
+mountedBefore l x zero i = isMounted (openingMounted l) i
+mountedBefore l x (suc w) i = x .last w i
+
+-- 33: "ZF of week 0 is 0; later, into j it sums to F of j, out of i to L of i in the week before": each sum where something is mounted before
+-- the week and the week has a first product. Behind rule 31 these are the paper's sums: the law `same-verdict`
+unfoldable pub rule33 : ℕ → LinePlant → LinePlan → ℕ → Bool
+rule33 N l x w =
+    allBelow N (λ j. eqb (sumBelow N (λ i. x .weekChangeover w i j)) (x .first w j * sumBelow N (mountedBefore l x w)))
+    && allBelow N (λ i. eqb (sumBelow N (λ j. x .weekChangeover w i j)) (mountedBefore l x w i * sumBelow N (x .first w)))
 
 -- 35: "shortest × E ≤ T ≤ week × E"
-abbrev pub runAt : Plant → LinePlan → ℕ → ℕ → Bool
-runAt P x w i = within (P .shortestRun * x .assigned w i) (P .weekMinutes * x .assigned w i) (x .minutes w i)
+abbrev pub runAt : (shortest week : ℕ) → LinePlan → ℕ → ℕ → Bool
+runAt shortest week x w i = within (shortest * x .assigned w i) (week * x .assigned w i) (x .minutes w i)
 
-unfoldable pub rule35 : Plant → LinePlan → ℕ → Bool
-rule35 P x w = allBelow (P .products) (runAt P x w)
+unfoldable pub rule35 : (N shortest week : ℕ) → LinePlan → ℕ → Bool
+rule35 N shortest week x w = allBelow N (runAt shortest week x w)
 
--- "changeover minutes under Z and ZF", or cents: from one product, and in all
-abbrev pub changeoverFrom : ℕ → (ℕ → ℕ → ℕ) → LinePlan → ℕ → ℕ → ℕ
-changeoverFrom N table x w i = sumBelow N (λ j. table i j * (x .changeover w i j + x .weekChangeover w i j))
+-- "changeover minutes under" marks of 0 and 1, or cents
+unfoldable pub changeoversUnder : ℕ → (table marks : ℕ → ℕ → ℕ) → ℕ
+changeoversUnder N table marks = sumBelow N (λ i. sumBelow N (λ j. marks i j * changeoverBetween table i j))
 
-unfoldable pub changeoverUnder : ℕ → (ℕ → ℕ → ℕ) → LinePlan → ℕ → ℕ
-changeoverUnder N table x w = sumBelow N (changeoverFrom N table x w)
+-- "under Z and ZF": week w's, within it and from the week before
+unfoldable pub changeoversIn : ℕ → (ℕ → ℕ → ℕ) → LinePlan → ℕ → ℕ
+changeoversIn N table x w = changeoversUnder N table (x .changeover w) + changeoversUnder N table (x .weekChangeover w)
 
 -- 36: "all T, plus changeover minutes under Z and ZF, are at most the week's minutes"
-unfoldable pub rule36 : Plant → LinePlan → ℕ → Bool
-rule36 P x w =
-    leb (sumBelow (P .products) (x .minutes w) + changeoverUnder (P .products) (P .line .changeoverMinutes) x w) (P .weekMinutes)
+unfoldable pub rule36 : (N week : ℕ) → LinePlant → LinePlan → ℕ → Bool
+rule36 N week l x w = leb (sumBelow N (x .minutes w) + changeoversIn N (l .changeoverMinutes) x w) week
 
 -- 37: "P = r × T"
 abbrev pub productionAt : Plant → Plan → ℕ → ℕ → Bool
@@ -77,29 +85,24 @@ storageAt P x w i = within (P .leastStorage i) (P .greatestStorage i) (x .invent
 unfoldable pub rule40 : Plant → Plan → ℕ → Bool
 rule40 P x w = allBelow (P .products) (storageAt P x w)
 
--- 41, a week's money in thousandths of a cent: "price times S, 1000 times the cents under Z and ZF, unit costs times Δ and V"
-abbrev pub salesTo : Plant → Plan → ℕ → ℕ → ℕ
-salesTo P x w c = sumBelow (P .products) (λ i. P .price c i * x .sales c i w)
+-- 41, a week's money: "price times S, 1000 times the cents under Z and ZF, unit costs times Δ and V"
+unfoldable pub revenueIn : Plant → Plan → ℕ → ℕ
+revenueIn P x w = revenueOf P (λ c i. x .sales c i w)
 
-unfoldable pub salesOf : Plant → Plan → ℕ → ℕ
-salesOf P x w = sumBelow (P .customers) (salesTo P x w)
+unfoldable pub changeoverChargeIn : Plant → Plan → ℕ → ℕ
+changeoverChargeIn P x w = changeoverChargeOf (changeoversIn (P .products) (P .line .changeoverCents) (x .line) w)
 
-unfoldable pub changeoversOf : Plant → Plan → ℕ → ℕ
-changeoversOf P x w = 1000 * changeoverUnder (P .products) (P .line .changeoverCents) (x .line) w
+unfoldable pub backlogChargeIn : Plant → Plan → ℕ → ℕ
+backlogChargeIn P x w = backlogChargeOf P (λ c i. x .backlog c i w)
 
-abbrev pub backlogTo : Plant → Plan → ℕ → ℕ → ℕ
-backlogTo P x w c = sumBelow (P .products) (λ i. P .backlogCost c i * x .backlog c i w)
-
-unfoldable pub backlogOf : Plant → Plan → ℕ → ℕ
-backlogOf P x w = sumBelow (P .customers) (backlogTo P x w)
-
-unfoldable pub inventoryOf : Plant → Plan → ℕ → ℕ
-inventoryOf P x w = sumBelow (P .products) (λ i. P .inventoryCost i * x .inventory w i)
+unfoldable pub inventoryChargeIn : Plant → Plan → ℕ → ℕ
+inventoryChargeIn P x w = inventoryChargeOf P (x .inventory w)
 
 -- "sales − changeovers − backlog − inventory", over the first n weeks
 unfoldable pub profitOf : Plant → Plan → ℕ → ℤ
 profitOf P x n =
-    pos (sumBelow n (salesOf P x)) -ℤ pos (sumBelow n (changeoversOf P x)) -ℤ pos (sumBelow n (backlogOf P x)) -ℤ pos (sumBelow n (inventoryOf P x))
+    pos (sumBelow n (revenueIn P x)) -ℤ pos (sumBelow n (changeoverChargeIn P x))
+    -ℤ pos (sumBelow n (backlogChargeIn P x)) -ℤ pos (sumBelow n (inventoryChargeIn P x))
 
 -- two integers are equal
 abbrev pub sameInteger : ℤ → ℤ → Bool

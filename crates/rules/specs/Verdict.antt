@@ -24,10 +24,10 @@ unfoldable pub trials : Plant → Plan → List Trial
 trials P x =
     trial 31 (λ w. rule31 (P .products) (weekOf (x .line) w))
     ∷ trial 32 (λ w. rule32 (P .products) (weekOf (x .line) w))
-    ∷ trial 33 (rule33 (P .products) (x .line))
+    ∷ trial 33 (rule33 (P .products) (P .line) (x .line))
     ∷ trial 34 (λ w. rule34 (P .products) (weekOf (x .line) w))
-    ∷ trial 35 (rule35 P (x .line))
-    ∷ trial 36 (rule36 P (x .line))
+    ∷ trial 35 (rule35 (P .products) (P .shortestRun) (P .weekMinutes) (x .line))
+    ∷ trial 36 (rule36 (P .products) (P .weekMinutes) (P .line) (x .line))
     ∷ trial 37 (rule37 P x)
     ∷ trial 38 (rule38 P x)
     ∷ trial 39 (rule39 P x)

@@ -1,30 +1,35 @@
 // The model's rules 31 to 41 over a plant file and a plan file.
 ghost use mathlib.Core.Path.{_≡_};
-ghost use Prim.Native.Nat.{_+_, _*_, _≤_, _<_, _^_};
+ghost use Prim.Native.Nat.{_+_, _*_, _/_, _%_, _≤_, _<_, _^_};
 ghost use lib.Dec.{eqb, leb};
 ghost use lib.IntN.{pos, _-ℤ_};
 ghost use Rattle.mathematics.specs.Below.{sumBelow, allBelow, implies, within};
+ghost use Rattle.mathematics.specs.Week.{markedOnce, rule31, rule32, rule34};
 ghost use Rattle.sections.specs.declared.Form.the-variants.{Good};
 ghost use Rattle.plant_file.specs.Plant.{plantOf};
 ghost use Rattle.plant_file.specs.Form.{plantForm};
 ghost use Rattle.plan_file.specs.Plan.{planOf};
 ghost use Rattle.plan_file.specs.Form.{planForm};
-ghost use Rattle.mathematics.specs.Week.{rule31, rule32, rule34};
-ghost use Rattle.rules.specs.Rules.{weekOf, rule33, rule35, rule36, rule37, rule38, rule39, rule40, rule41};
-ghost use Rattle.rules.specs.Rules.{runAt, productionAt, backlogAt, inventoryAt, storageAt, inventoryBefore};
-ghost use Rattle.rules.specs.Rules.{changeoverFrom, changeoverUnder, salesTo, backlogTo, salesOf, changeoversOf, backlogOf, inventoryOf, sameInteger};
-ghost use Rattle.rules.specs.Places.{Judged, oneMark, marksAt, sequenceAt, passageAt, positionAt, followsAt, costsOf};
+ghost use Rattle.plan_file.specs.Tables.{productTableOf, changeoverTableOf};
+ghost use Rattle.rules.specs.Rules.{weekOf, mountedBefore, inventoryBefore, rule33, rule36, rule38, rule41, sameInteger};
+ghost use Rattle.rules.specs.Rules.{runAt, productionAt, backlogAt, inventoryAt, storageAt, changeoversUnder, changeoversIn};
+ghost use Rattle.rules.specs.Rules.{revenueIn, changeoverChargeIn, backlogChargeIn, inventoryChargeIn};
+ghost use Rattle.rules.specs.Products.{Judged, sequenceAt, passageAt, positionAt, followsAt, productRule};
 ghost use Rattle.rules.specs.Verdict.{trials, keepsOf, verdictOf};
+use costs::changeover;
+use costs::is_mounted;
+use costs::opening_mounted;
 use numbers::and;
-use numbers::count;
+use numbers::as_usize;
 use numbers::inside;
 use numbers::wide;
-use plan_file::Passage;
-use plan_file::Weekly;
-use plan_file::into_sums;
-use plan_file::out_sum;
+use plan_file::ChangeoverTable;
+use plan_file::ProductTable;
+use plan_file::arc_changeover;
+use plan_file::arc_sums;
 use plan_file::week_sum;
 use sections::Shape;
+use sections::area;
 use units::Cents;
 use units::Changeover;
 use units::Grams;
@@ -83,29 +88,26 @@ fn balanced(after: Grams, left: Grams, before: Grams, come: Grams) -> bool
     same_mass(Grams(after.0 + left.0), Grams(before.0 + come.0))
 }
 
-// ---- rules 31 to 34 at a product
+// ---- rules 31 to 34
 
-// 31: one first and one last product.
-fn one_mark(plan: &[u8], f: Shape, week: usize) -> bool
+// 31: one mark in a table, on a product that is made.
+fn marked_once(plan: &[u8], f: Shape, table: ProductTable, week: usize) -> bool
     requires { ⌜ (planForm f (now plan) ≡ Good f) × (week < f .weeks) ⌝ }
-    ensures { λ r. ⌜ r ≡ oneMark (f .products) (planOf f (now (plan .entry)) .line) week ⌝ }
+    ensures { λ r. ⌜ r ≡ markedOnce (f .products) (productTableOf table (planOf f (now (plan .entry)) .line) week)
+        (planOf f (now (plan .entry)) .line .assigned week) ⌝ }
 {
-    and(
-        week_sum(plan, f, Weekly::First, week) == 1,
-        week_sum(plan, f, Weekly::Last, week) == 1,
-    )
-}
-
-// 31: they are made.
-fn marks_at(plan: &[u8], f: Shape, week: usize, product: usize) -> bool
-    requires { ⌜ (planForm f (now plan) ≡ Good f) × (week < f .weeks) × (product < f .products) ⌝ }
-    ensures { λ r. ⌜ r ≡ marksAt (planOf f (now (plan .entry)) .line) week product ⌝ }
-{
-    let made = plan_file::assigned(plan, f, week, product) == 1;
-    and(
-        implied(plan_file::first(plan, f, week, product) == 1, made),
-        implied(plan_file::last(plan, f, week, product) == 1, made),
-    )
+    let n = as_usize(f.products);
+    let mut sum = 0;
+    let mut ok = true;
+    let mut i = 0;
+    while i < n {
+        let mark = plan_file::product_number(plan, f, table, week, i);
+        let made = plan_file::assigned(plan, f, week, i);
+        ok = and(ok, implied(mark == 1, made == 1));
+        sum += mark;
+        i += 1;
+    }
+    and(sum == 1, ok)
 }
 
 // 31 in a week.
@@ -113,28 +115,22 @@ fn marks_in(plan: &[u8], f: Shape, week: usize) -> bool
     requires { ⌜ (planForm f (now plan) ≡ Good f) × (week < f .weeks) ⌝ }
     ensures { λ r. ⌜ r ≡ rule31 (f .products) (weekOf (planOf f (now (plan .entry)) .line) week) ⌝ }
 {
-    let n = count(f.products);
-    let one = one_mark(plan, f, week);
-    let mut ok = true;
-    let mut i = 0;
-    while i < n {
-        ok = and(ok, marks_at(plan, f, week, i));
-        i += 1;
-    }
-    and(one, ok)
+    and(
+        marked_once(plan, f, ProductTable::First, week),
+        marked_once(plan, f, ProductTable::Last, week),
+    )
 }
 
-// 32 at a product, with the sum into it.
-fn sequence_at(plan: &[u8], f: Shape, week: usize, product: usize, into: u8) -> bool
+// 32 at a product, with the sums into it and out of it.
+fn sequence_at(plan: &[u8], f: Shape, week: usize, product: usize, into: u8, out: u8) -> bool
     requires { ⌜ (planForm f (now plan) ≡ Good f) × (week < f .weeks) × (product < f .products) ⌝ }
-    ensures { λ r. ⌜ r ≡ sequenceAt into (f .products) (planOf f (now (plan .entry)) .line) week product ⌝ }
+    ensures { λ r. ⌜ r ≡ sequenceAt into out (planOf f (now (plan .entry)) .line) week product ⌝ }
 {
     let made = plan_file::assigned(plan, f, week, product);
-    let diagonal = plan_file::changeover(plan, f, week, product, product);
-    let into = wide(into) + plan_file::first(plan, f, week, product);
-    let out = out_sum(plan, f, Passage::Within, week, product)
-        + plan_file::last(plan, f, week, product);
-    and(and(diagonal == 0, into == made), out == made)
+    let diagonal = plan_file::changeover(plan, f, ChangeoverTable::Within, week, product, product);
+    let before = wide(into) + plan_file::first(plan, f, week, product);
+    let after = wide(out) + plan_file::last(plan, f, week, product);
+    and(and(diagonal == 0, before == made), after == made)
 }
 
 // 32 in a week.
@@ -142,43 +138,93 @@ fn sequence_in(plan: &[u8], f: Shape, week: usize) -> bool
     requires { ⌜ (planForm f (now plan) ≡ Good f) × (week < f .weeks) × (f .products ≤ 16) ⌝ }
     ensures { λ r. ⌜ r ≡ rule32 (f .products) (weekOf (planOf f (now (plan .entry)) .line) week) ⌝ }
 {
-    let n = count(f.products);
-    let into = into_sums(plan, f, Passage::Within, week);
+    let n = as_usize(f.products);
+    let sums = arc_sums(plan, f, ChangeoverTable::Within, week);
+    let into = sums.into;
+    let out = sums.out;
     let mut ok = true;
     let mut i = 0;
     while i < n {
-        ok = and(ok, sequence_at(plan, f, week, i, into[i]));
+        ok = and(ok, sequence_at(plan, f, week, i, into[i], out[i]));
         i += 1;
     }
     ok
 }
 
-// 33 at a product, with the sum into it.
-fn passage_at(plan: &[u8], f: Shape, week: usize, product: usize, into: u8) -> bool
-    requires { ⌜ (planForm f (now plan) ≡ Good f) × (week < f .weeks) × (product < f .products) ⌝ }
-    ensures { λ r. ⌜ r ≡ passageAt into (f .products) (planOf f (now (plan .entry)) .line) week product ⌝ }
+// Whether a product is mounted before a week: 1, else 0.
+pub fn mounted_before(plant: &[u8], plan: &[u8], f: Shape, week: usize, product: usize) -> u64
+    requires { ⌜ Judged (now plant) (now plan) f week × (product < f .products) ⌝ }
+    ensures { λ r. ⌜ (r ≡ mountedBefore (plantOf f (now (plant .entry)) .line) (planOf f (now (plan .entry)) .line) week product) × (r < 2) ⌝ }
 {
-    let out = out_sum(plan, f, Passage::Between, week, product);
     if week == 0 {
-        return out == 0;
+        return is_mounted(opening_mounted(plant, f), product);
     }
+    plan_file::last(plan, f, week - 1, product)
+}
+
+// How many products are mounted before a week.
+fn mounted_sum(plant: &[u8], plan: &[u8], f: Shape, week: usize) -> u64
+    requires { ⌜ Judged (now plant) (now plan) f week ⌝ }
+    ensures { λ r. ⌜ (r ≡ sumBelow (f .products) (mountedBefore (plantOf f (now (plant .entry)) .line) (planOf f (now (plan .entry)) .line) week))
+        × (r < 2 ^ 24) ⌝ }
+{
+    let n = as_usize(f.products);
+    let mut sum = 0;
+    let mut product = 0;
+    while product < n {
+        sum += mounted_before(plant, plan, f, week, product);
+        product += 1;
+    }
+    sum
+}
+
+// A count under a mark of 0 or 1.
+fn marked(mark: u64, n: u64) -> u64
+    requires { ⌜ (mark < 2) × (n < 2 ^ 24) ⌝ }
+    ensures { λ r. ⌜ r ≡ mark * n ⌝ }
+{
+    mark * n
+}
+
+// 33 at a product, with the sums into it and out of it, and how many products are mounted before the week and come first in it.
+fn passage_at(
+    plant: &[u8],
+    plan: &[u8],
+    f: Shape,
+    week: usize,
+    product: usize,
+    into: u8,
+    out: u8,
+    mounted: u64,
+    firsts: u64,
+) -> bool
+    requires { ⌜ Judged (now plant) (now plan) f week × (product < f .products) × (mounted < 2 ^ 24) × (firsts < 2 ^ 24) ⌝ }
+    ensures { λ r. ⌜ r ≡ passageAt into out mounted firsts (plantOf f (now (plant .entry)) .line) (planOf f (now (plan .entry)) .line) week product ⌝ }
+{
+    let first = plan_file::first(plan, f, week, product);
+    let before = mounted_before(plant, plan, f, week, product);
     and(
-        wide(into) == plan_file::first(plan, f, week, product),
-        out == plan_file::last(plan, f, week - 1, product),
+        wide(into) == marked(first, mounted),
+        wide(out) == marked(before, firsts),
     )
 }
 
 // 33 in a week.
-fn passages_in(plan: &[u8], f: Shape, week: usize) -> bool
-    requires { ⌜ (planForm f (now plan) ≡ Good f) × (week < f .weeks) × (f .products ≤ 16) ⌝ }
-    ensures { λ r. ⌜ r ≡ rule33 (f .products) (planOf f (now (plan .entry)) .line) week ⌝ }
+fn passages_in(plant: &[u8], plan: &[u8], f: Shape, week: usize) -> bool
+    requires { ⌜ Judged (now plant) (now plan) f week × (f .products ≤ 16) ⌝ }
+    ensures { λ r. ⌜ r ≡ rule33 (f .products) (plantOf f (now (plant .entry)) .line) (planOf f (now (plan .entry)) .line) week ⌝ }
 {
-    let n = count(f.products);
-    let into = into_sums(plan, f, Passage::Between, week);
+    let n = as_usize(f.products);
+    let sums = arc_sums(plan, f, ChangeoverTable::Between, week);
+    let into = sums.into;
+    let out = sums.out;
+    let mounted = mounted_sum(plant, plan, f, week);
+    let firsts = week_sum(plan, f, ProductTable::First, week);
     let mut ok = true;
     let mut i = 0;
     while i < n {
-        ok = and(ok, passage_at(plan, f, week, i, into[i]));
+        let here = passage_at(plant, plan, f, week, i, into[i], out[i], mounted, firsts);
+        ok = and(ok, here);
         i += 1;
     }
     ok
@@ -201,10 +247,10 @@ fn follows_at(plan: &[u8], f: Shape, week: usize, from: usize, to: usize) -> boo
     requires { ⌜ (planForm f (now plan) ≡ Good f) × (week < f .weeks) × (from < f .products) × (to < f .products) ⌝ }
     ensures { λ r. ⌜ r ≡ followsAt (planOf f (now (plan .entry)) .line) week from to ⌝ }
 {
-    let follows = plan_file::changeover(plan, f, week, from, to) == 1;
+    let mark = plan_file::changeover(plan, f, ChangeoverTable::Within, week, from, to);
     let before = plan_file::position(plan, f, week, from);
     let after = plan_file::position(plan, f, week, to);
-    implied(follows, before + 1 <= after)
+    implied(mark == 1, before + 1 <= after)
 }
 
 // 34: so have all that follow it.
@@ -212,7 +258,7 @@ fn follows_from(plan: &[u8], f: Shape, week: usize, from: usize) -> bool
     requires { ⌜ (planForm f (now plan) ≡ Good f) × (week < f .weeks) × (from < f .products) ⌝ }
     ensures { λ r. ⌜ r ≡ allBelow (f .products) (followsAt (planOf f (now (plan .entry)) .line) week from) ⌝ }
 {
-    let n = count(f.products);
+    let n = as_usize(f.products);
     let mut ok = true;
     let mut to = 0;
     while to < n {
@@ -227,8 +273,8 @@ fn positions_in(plan: &[u8], f: Shape, week: usize) -> bool
     requires { ⌜ (planForm f (now plan) ≡ Good f) × (week < f .weeks) ⌝ }
     ensures { λ r. ⌜ r ≡ rule34 (f .products) (weekOf (planOf f (now (plan .entry)) .line) week) ⌝ }
 {
-    let n = count(f.products);
-    let made = week_sum(plan, f, Weekly::Assigned, week);
+    let n = as_usize(f.products);
+    let made = week_sum(plan, f, ProductTable::Assigned, week);
     let mut ok = true;
     let mut i = 0;
     while i < n {
@@ -239,112 +285,19 @@ fn positions_in(plan: &[u8], f: Shape, week: usize) -> bool
     ok
 }
 
-// ---- rules 35 to 37
+// ---- rules 35, 37, 39 and 40, each tried at every product by itself
 
 // 35
 fn run_at(plant: &[u8], plan: &[u8], f: Shape, week: usize, product: usize) -> bool
     requires { ⌜ Judged (now plant) (now plan) f week × (product < f .products) ⌝ }
-    ensures { λ r. ⌜ r ≡ runAt (plantOf f (now (plant .entry))) (planOf f (now (plan .entry)) .line) week product ⌝ }
+    ensures { λ r. ⌜ r ≡ runAt (plantOf f (now (plant .entry)) .shortestRun) (plantOf f (now (plant .entry)) .weekMinutes)
+        (planOf f (now (plan .entry)) .line) week product ⌝ }
 {
     let made = plan_file::assigned(plan, f, week, product);
     let least = Minutes(plant_file::shortest_run(plant, f) * made);
     let most = Minutes(plant_file::week_minutes(plant, f) * made);
     let time = Minutes(plan_file::minutes(plan, f, week, product));
     time_within(least, most, time)
-}
-
-// 35 in a week.
-fn runs_in(plant: &[u8], plan: &[u8], f: Shape, week: usize) -> bool
-    requires { ⌜ Judged (now plant) (now plan) f week ⌝ }
-    ensures { λ r. ⌜ r ≡ rule35 (plantOf f (now (plant .entry))) (planOf f (now (plan .entry)) .line) week ⌝ }
-{
-    let n = count(f.products);
-    let mut ok = true;
-    let mut i = 0;
-    while i < n {
-        ok = and(ok, run_at(plant, plan, f, week, i));
-        i += 1;
-    }
-    ok
-}
-
-// The minutes of a week's runs.
-fn running(plan: &[u8], f: Shape, week: usize) -> Minutes
-    requires { ⌜ (planForm f (now plan) ≡ Good f) × (week < f .weeks) ⌝ }
-    ensures { λ r. ⌜ (r .0 ≡ sumBelow (f .products) (planOf f (now (plan .entry)) .line .minutes week)) × (r .0 < 2 ^ 24) ⌝ }
-{
-    Minutes(week_sum(plan, f, Weekly::Minutes, week))
-}
-
-// What changeovers take that happen at most twice.
-fn repeated(one: u64, times: u64) -> u64
-    requires { ⌜ (one ≤ 1000000) × (times ≤ 2) ⌝ }
-    ensures { λ r. ⌜ (r ≡ one * times) × (r ≤ 2000000) ⌝ }
-{
-    one * times
-}
-
-// What a week's changeovers from a product take, within the week and from the week before.
-fn changeovers_from(plant: &[u8], plan: &[u8], f: Shape, week: usize, from: usize) -> Changeover
-    requires { ⌜ Judged (now plant) (now plan) f week × (from < f .products) ⌝ }
-    ensures { λ r. ⌜ (r .minutes .0 ≡ changeoverFrom (f .products) (plantOf f (now (plant .entry)) .line .changeoverMinutes)
-        (planOf f (now (plan .entry)) .line) week from)
-        × (r .cents .0 ≡ changeoverFrom (f .products) (plantOf f (now (plant .entry)) .line .changeoverCents)
-        (planOf f (now (plan .entry)) .line) week from)
-        × (r .minutes .0 < 2 ^ 30) × (r .cents .0 < 2 ^ 30) ⌝ }
-{
-    let n = count(f.products);
-    let mut minutes = 0;
-    let mut cents = 0;
-    let mut to = 0;
-    while to < n {
-        let within = plan_file::changeover(plan, f, week, from, to);
-        let times = within + plan_file::week_changeover(plan, f, week, from, to);
-        minutes += repeated(plant_file::changeover_minutes(plant, f, from, to), times);
-        cents += repeated(plant_file::changeover_cents(plant, f, from, to), times);
-        to += 1;
-    }
-    Changeover {
-        minutes: Minutes(minutes),
-        cents: Cents(cents),
-    }
-}
-
-// What a week's changeovers take.
-fn changeovers(plant: &[u8], plan: &[u8], f: Shape, week: usize) -> Changeover
-    requires { ⌜ Judged (now plant) (now plan) f week ⌝ }
-    ensures { λ r. ⌜ (r .minutes .0 ≡ changeoverUnder (f .products) (plantOf f (now (plant .entry)) .line .changeoverMinutes)
-        (planOf f (now (plan .entry)) .line) week)
-        × (r .cents .0 ≡ changeoverUnder (f .products) (plantOf f (now (plant .entry)) .line .changeoverCents)
-        (planOf f (now (plan .entry)) .line) week)
-        × (r .minutes .0 < 2 ^ 40) × (r .cents .0 < 2 ^ 40) ⌝ }
-{
-    let n = count(f.products);
-    let mut minutes = 0;
-    let mut cents = 0;
-    let mut from = 0;
-    while from < n {
-        let row = changeovers_from(plant, plan, f, week, from);
-        minutes += row.minutes.0;
-        cents += row.cents.0;
-        from += 1;
-    }
-    Changeover {
-        minutes: Minutes(minutes),
-        cents: Cents(cents),
-    }
-}
-
-// 36
-fn week_fits(plant: &[u8], plan: &[u8], f: Shape, week: usize) -> bool
-    requires { ⌜ Judged (now plant) (now plan) f week ⌝ }
-    ensures { λ r. ⌜ r ≡ rule36 (plantOf f (now (plant .entry))) (planOf f (now (plan .entry)) .line) week ⌝ }
-{
-    let run = running(plan, f, week);
-    let over = changeovers(plant, plan, f, week);
-    let used = Minutes(run.0 + over.minutes.0);
-    let most = Minutes(plant_file::week_minutes(plant, f));
-    time_fits(used, most)
 }
 
 // 37
@@ -360,23 +313,6 @@ fn production_at(plant: &[u8], plan: &[u8], f: Shape, week: usize, product: usiz
     )
 }
 
-// 37 in a week.
-fn production_in(plant: &[u8], plan: &[u8], f: Shape, week: usize) -> bool
-    requires { ⌜ Judged (now plant) (now plan) f week ⌝ }
-    ensures { λ r. ⌜ r ≡ rule37 (plantOf f (now (plant .entry))) (planOf f (now (plan .entry))) week ⌝ }
-{
-    let n = count(f.products);
-    let mut ok = true;
-    let mut i = 0;
-    while i < n {
-        ok = and(ok, production_at(plant, plan, f, week, i));
-        i += 1;
-    }
-    ok
-}
-
-// ---- rules 38 to 40
-
 // The mass of a product in stock before a week.
 fn inventory_before(plant: &[u8], plan: &[u8], f: Shape, week: usize, product: usize) -> Grams
     requires { ⌜ Judged (now plant) (now plan) f week × (product < f .products) ⌝ }
@@ -386,57 +322,6 @@ fn inventory_before(plant: &[u8], plan: &[u8], f: Shape, week: usize, product: u
         return Grams(plant_file::opening_inventory(plant, f, product));
     }
     Grams(plan_file::inventory(plan, f, week - 1, product))
-}
-
-// 38 of a customer and a product, in all weeks.
-fn backlog_over(plant: &[u8], plan: &[u8], f: Shape, customer: usize, product: usize) -> bool
-    requires { ⌜ (plantForm (now plant) ≡ Good f) × (planForm f (now plan) ≡ Good f) × (customer < f .customers) × (product < f .products) ⌝ }
-    ensures { λ r. ⌜ r ≡ allBelow (f .weeks) (backlogAt (plantOf f (now (plant .entry))) (planOf f (now (plan .entry))) customer product) ⌝ }
-{
-    let weeks = count(f.weeks);
-    let mut before = plant_file::opening_backlog(plant, f, customer, product);
-    let mut ok = true;
-    let mut week = 0;
-    while week < weeks {
-        let after = plan_file::backlog(plan, f, customer, product, week);
-        let sales = plan_file::sales(plan, f, customer, product, week);
-        let demand = plant_file::demand(plant, f, customer, product, week);
-        let even = balanced(Grams(after), Grams(sales), Grams(before), Grams(demand));
-        ok = and(ok, even);
-        before = after;
-        week += 1;
-    }
-    ok
-}
-
-// 38 of a customer, in all weeks.
-fn backlog_with(plant: &[u8], plan: &[u8], f: Shape, customer: usize) -> bool
-    requires { ⌜ (plantForm (now plant) ≡ Good f) × (planForm f (now plan) ≡ Good f) × (customer < f .customers) ⌝ }
-    ensures { λ r. ⌜ r ≡ allBelow (f .products) (λ i. allBelow (f .weeks) (backlogAt (plantOf f (now (plant .entry))) (planOf f (now (plan .entry))) customer i)) ⌝ }
-{
-    let n = count(f.products);
-    let mut ok = true;
-    let mut i = 0;
-    while i < n {
-        ok = and(ok, backlog_over(plant, plan, f, customer, i));
-        i += 1;
-    }
-    ok
-}
-
-// 38 in all weeks: the files hold the weeks of a customer and a product side by side.
-fn backlog_kept(plant: &[u8], plan: &[u8], f: Shape) -> bool
-    requires { ⌜ (plantForm (now plant) ≡ Good f) × (planForm f (now plan) ≡ Good f) ⌝ }
-    ensures { λ r. ⌜ r ≡ allBelow (f .weeks) (rule38 (plantOf f (now (plant .entry))) (planOf f (now (plan .entry)))) ⌝ }
-{
-    let customers = count(f.customers);
-    let mut ok = true;
-    let mut customer = 0;
-    while customer < customers {
-        ok = and(ok, backlog_with(plant, plan, f, customer));
-        customer += 1;
-    }
-    ok
 }
 
 // 39
@@ -451,21 +336,6 @@ fn inventory_at(plant: &[u8], plan: &[u8], f: Shape, week: usize, product: usize
     balanced(after, sales, before, made)
 }
 
-// 39 in a week.
-fn inventory_in(plant: &[u8], plan: &[u8], f: Shape, week: usize) -> bool
-    requires { ⌜ Judged (now plant) (now plan) f week ⌝ }
-    ensures { λ r. ⌜ r ≡ rule39 (plantOf f (now (plant .entry))) (planOf f (now (plan .entry))) week ⌝ }
-{
-    let n = count(f.products);
-    let mut ok = true;
-    let mut i = 0;
-    while i < n {
-        ok = and(ok, inventory_at(plant, plan, f, week, i));
-        i += 1;
-    }
-    ok
-}
-
 // 40
 fn storage_at(plant: &[u8], plan: &[u8], f: Shape, week: usize, product: usize) -> bool
     requires { ⌜ Judged (now plant) (now plan) f week × (product < f .products) ⌝ }
@@ -477,77 +347,223 @@ fn storage_at(plant: &[u8], plan: &[u8], f: Shape, week: usize, product: usize) 
     mass_within(least, most, mass)
 }
 
-// 40 in a week.
-fn storage_in(plant: &[u8], plan: &[u8], f: Shape, week: usize) -> bool
-    requires { ⌜ Judged (now plant) (now plan) f week ⌝ }
-    ensures { λ r. ⌜ r ≡ rule40 (plantOf f (now (plant .entry))) (planOf f (now (plan .entry))) week ⌝ }
+enum ProductRule {
+    Run,
+    Production,
+    Inventory,
+    Storage,
+}
+
+fn holds_at(
+    plant: &[u8],
+    plan: &[u8],
+    f: Shape,
+    rule: ProductRule,
+    week: usize,
+    product: usize,
+) -> bool
+    requires { ⌜ Judged (now plant) (now plan) f week × (product < f .products) ⌝ }
+    ensures { λ r. ⌜ r ≡ productRule rule (plantOf f (now (plant .entry))) (planOf f (now (plan .entry))) week product ⌝ }
 {
-    let n = count(f.products);
+    match rule {
+        ProductRule::Run => run_at(plant, plan, f, week, product),
+        ProductRule::Production => production_at(plant, plan, f, week, product),
+        ProductRule::Inventory => inventory_at(plant, plan, f, week, product),
+        ProductRule::Storage => storage_at(plant, plan, f, week, product),
+    }
+}
+
+fn each_product(plant: &[u8], plan: &[u8], f: Shape, rule: ProductRule, week: usize) -> bool
+    requires { ⌜ Judged (now plant) (now plan) f week ⌝ }
+    ensures { λ r. ⌜ r ≡ allBelow (f .products) (productRule rule (plantOf f (now (plant .entry))) (planOf f (now (plan .entry))) week) ⌝ }
+{
+    let n = as_usize(f.products);
     let mut ok = true;
     let mut i = 0;
     while i < n {
-        ok = and(ok, storage_at(plant, plan, f, week, i));
+        ok = and(ok, holds_at(plant, plan, f, rule, week, i));
         i += 1;
+    }
+    ok
+}
+
+// ---- rule 36
+
+// What a changeover takes where it is marked.
+fn charged(mark: u64, one: Changeover) -> Changeover
+    requires { ⌜ mark < 2 ⌝ }
+    ensures { λ r. ⌜ (r .minutes .0 ≡ mark * one .minutes .0) × (r .cents .0 ≡ mark * one .cents .0)
+        × (r .minutes .0 ≤ one .minutes .0) × (r .cents .0 ≤ one .cents .0) ⌝ }
+{
+    if mark == 1 {
+        return one;
+    }
+    Changeover {
+        minutes: Minutes(0),
+        cents: Cents(0),
+    }
+}
+
+// What a week's changeovers of a table take: at most 256 of them, so that their minutes and cents stay below 2^32.
+fn changeovers_under(
+    plant: &[u8],
+    plan: &[u8],
+    f: Shape,
+    table: ChangeoverTable,
+    week: usize,
+) -> Changeover
+    requires { ⌜ Judged (now plant) (now plan) f week ⌝ }
+    ensures { λ r. ⌜ (r .minutes .0 ≡ changeoversUnder (f .products) (plantOf f (now (plant .entry)) .line .changeoverMinutes)
+        (changeoverTableOf table (planOf f (now (plan .entry)) .line) week))
+        × (r .cents .0 ≡ changeoversUnder (f .products) (plantOf f (now (plant .entry)) .line .changeoverCents)
+        (changeoverTableOf table (planOf f (now (plan .entry)) .line) week))
+        × (r .minutes .0 < 2 ^ 32) × (r .cents .0 < 2 ^ 32) ⌝ }
+{
+    let arcs = area(f.products, f.products);
+    let mut minutes: u32 = 0;
+    let mut cents: u32 = 0;
+    let mut arc = 0;
+    while arc < arcs {
+        let mark = arc_changeover(plan, f, table, week, arc);
+        let taken = charged(mark, changeover(plant, f, arc));
+        minutes += taken.minutes.0 as u32;
+        cents += taken.cents.0 as u32;
+        arc += 1;
+    }
+    Changeover {
+        minutes: Minutes(minutes as u64),
+        cents: Cents(cents as u64),
+    }
+}
+
+// What a week's changeovers take, within the week and from the week before.
+fn changeovers(plant: &[u8], plan: &[u8], f: Shape, week: usize) -> Changeover
+    requires { ⌜ Judged (now plant) (now plan) f week ⌝ }
+    ensures { λ r. ⌜ (r .minutes .0 ≡ changeoversIn (f .products) (plantOf f (now (plant .entry)) .line .changeoverMinutes)
+        (planOf f (now (plan .entry)) .line) week)
+        × (r .cents .0 ≡ changeoversIn (f .products) (plantOf f (now (plant .entry)) .line .changeoverCents)
+        (planOf f (now (plan .entry)) .line) week)
+        × (r .minutes .0 < 2 ^ 33) × (r .cents .0 < 2 ^ 33) ⌝ }
+{
+    let within = changeovers_under(plant, plan, f, ChangeoverTable::Within, week);
+    let between = changeovers_under(plant, plan, f, ChangeoverTable::Between, week);
+    Changeover {
+        minutes: Minutes(within.minutes.0 + between.minutes.0),
+        cents: Cents(within.cents.0 + between.cents.0),
+    }
+}
+
+// The minutes of a week's runs.
+fn running(plan: &[u8], f: Shape, week: usize) -> Minutes
+    requires { ⌜ (planForm f (now plan) ≡ Good f) × (week < f .weeks) ⌝ }
+    ensures { λ r. ⌜ (r .0 ≡ sumBelow (f .products) (planOf f (now (plan .entry)) .line .minutes week)) × (r .0 < 2 ^ 24) ⌝ }
+{
+    Minutes(week_sum(plan, f, ProductTable::Minutes, week))
+}
+
+// 36
+fn week_fits(plant: &[u8], plan: &[u8], f: Shape, week: usize) -> bool
+    requires { ⌜ Judged (now plant) (now plan) f week ⌝ }
+    ensures { λ r. ⌜ r ≡ rule36 (f .products) (plantOf f (now (plant .entry)) .weekMinutes) (plantOf f (now (plant .entry)) .line)
+        (planOf f (now (plan .entry)) .line) week ⌝ }
+{
+    let run = running(plan, f, week);
+    let over = changeovers(plant, plan, f, week);
+    let used = Minutes(run.0 + over.minutes.0);
+    let most = Minutes(plant_file::week_minutes(plant, f));
+    time_fits(used, most)
+}
+
+// ---- rule 38
+
+// 38 of a pair (customer times the count of products, plus product) in all weeks.
+fn backlog_over(plant: &[u8], plan: &[u8], f: Shape, pair: usize) -> bool
+    requires { ⌜ (plantForm (now plant) ≡ Good f) × (planForm f (now plan) ≡ Good f) × (pair < f .customers * f .products) ⌝ }
+    ensures { λ r. ⌜ r ≡ allBelow (f .weeks) (backlogAt (plantOf f (now (plant .entry))) (planOf f (now (plan .entry))) (pair / f .products) (pair % f .products)) ⌝ }
+{
+    let weeks = as_usize(f.weeks);
+    let mut before = plant_file::pair_opening_backlog(plant, f, pair);
+    let mut ok = true;
+    let mut week = 0;
+    while week < weeks {
+        let after = plan_file::pair_backlog(plan, f, pair, week);
+        let sales = plan_file::pair_sales(plan, f, pair, week);
+        let demand = plant_file::pair_demand(plant, f, pair, week);
+        let even = balanced(Grams(after), Grams(sales), Grams(before), Grams(demand));
+        ok = and(ok, even);
+        before = after;
+        week += 1;
+    }
+    ok
+}
+
+// 38 in all weeks: the files hold the weeks of a pair side by side.
+fn backlog_kept(plant: &[u8], plan: &[u8], f: Shape) -> bool
+    requires { ⌜ (plantForm (now plant) ≡ Good f) × (planForm f (now plan) ≡ Good f) ⌝ }
+    ensures { λ r. ⌜ r ≡ allBelow (f .weeks) (rule38 (plantOf f (now (plant .entry))) (planOf f (now (plan .entry)))) ⌝ }
+{
+    let pairs = area(f.customers, f.products);
+    let mut ok = true;
+    let mut pair = 0;
+    while pair < pairs {
+        ok = and(ok, backlog_over(plant, plan, f, pair));
+        pair += 1;
     }
     ok
 }
 
 // ---- rule 41
 
-// What is sold, and what its backlog costs.
+// What sales bring, and what the backlog costs.
 struct Market {
     sales: Thousandths,
     backlog: Thousandths,
 }
 
-// A week's market with a customer.
-fn customer_market(plant: &[u8], plan: &[u8], f: Shape, week: usize, customer: usize) -> Market
-    requires { ⌜ Judged (now plant) (now plan) f week × (customer < f .customers) ⌝ }
-    ensures { λ r. ⌜ (r .sales .0 ≡ salesTo (plantOf f (now (plant .entry))) (planOf f (now (plan .entry))) week customer)
-        × (r .backlog .0 ≡ backlogTo (plantOf f (now (plant .entry))) (planOf f (now (plan .entry))) week customer)
-        × (r .sales .0 < 2 ^ 53) × (r .backlog .0 < 2 ^ 53) ⌝ }
+// A pair's market over all weeks.
+fn pair_market(plant: &[u8], plan: &[u8], f: Shape, pair: usize) -> Market
+    requires { ⌜ (plantForm (now plant) ≡ Good f) × (planForm f (now plan) ≡ Good f) × (pair < f .customers * f .products) ⌝ }
+    ensures { λ r. ⌜ (r .sales .0 ≡ plantOf f (now (plant .entry)) .price (pair / f .products) (pair % f .products)
+        * sumBelow (f .weeks) (planOf f (now (plan .entry)) .sales (pair / f .products) (pair % f .products)))
+        × (r .backlog .0 ≡ plantOf f (now (plant .entry)) .backlogCost (pair / f .products) (pair % f .products)
+        * sumBelow (f .weeks) (planOf f (now (plan .entry)) .backlog (pair / f .products) (pair % f .products)))
+        × (r .sales .0 < 2 ^ 54) × (r .backlog .0 < 2 ^ 54) ⌝ }
 {
-    let n = count(f.products);
+    let weeks = as_usize(f.weeks);
     let mut sales = 0;
     let mut backlog = 0;
-    let mut product = 0;
-    while product < n {
-        let price = plant_file::price(plant, f, customer, product);
-        let bought = charge(
-            UnitCost(price),
-            Grams(plan_file::sales(plan, f, customer, product, week)),
-        );
-        let cost = plant_file::backlog_cost(plant, f, customer, product);
-        let owed = charge(
-            UnitCost(cost),
-            Grams(plan_file::backlog(plan, f, customer, product, week)),
-        );
-        sales += bought.0;
-        backlog += owed.0;
-        product += 1;
+    let mut week = 0;
+    while week < weeks {
+        sales += plan_file::pair_sales(plan, f, pair, week);
+        backlog += plan_file::pair_backlog(plan, f, pair, week);
+        week += 1;
     }
+    let price = UnitCost(plant_file::pair_price(plant, f, pair));
+    let cost = UnitCost(plant_file::pair_backlog_cost(plant, f, pair));
+    let bought = charge(price, Grams(sales));
+    let owed = charge(cost, Grams(backlog));
     Market {
-        sales: Thousandths(sales),
-        backlog: Thousandths(backlog),
+        sales: bought,
+        backlog: owed,
     }
 }
 
-// A week's market.
-fn week_market(plant: &[u8], plan: &[u8], f: Shape, week: usize) -> Market
-    requires { ⌜ Judged (now plant) (now plan) f week ⌝ }
-    ensures { λ r. ⌜ (r .sales .0 ≡ salesOf (plantOf f (now (plant .entry))) (planOf f (now (plan .entry))) week)
-        × (r .backlog .0 ≡ backlogOf (plantOf f (now (plant .entry))) (planOf f (now (plan .entry))) week)
-        × (r .sales .0 ≤ 2 ^ 56) × (r .backlog .0 ≤ 2 ^ 56) ⌝ }
+// The market over all weeks.
+fn total_market(plant: &[u8], plan: &[u8], f: Shape) -> Market
+    requires { ⌜ (plantForm (now plant) ≡ Good f) × (planForm f (now plan) ≡ Good f) ⌝ }
+    ensures { λ r. ⌜ (r .sales .0 ≡ sumBelow (f .weeks) (revenueIn (plantOf f (now (plant .entry))) (planOf f (now (plan .entry)))))
+        × (r .backlog .0 ≡ sumBelow (f .weeks) (backlogChargeIn (plantOf f (now (plant .entry))) (planOf f (now (plan .entry)))))
+        × (r .sales .0 < 2 ^ 62) × (r .backlog .0 < 2 ^ 62) ⌝ }
 {
-    let customers = count(f.customers);
+    let pairs = area(f.customers, f.products);
     let mut sales = 0;
     let mut backlog = 0;
-    let mut customer = 0;
-    while customer < customers {
-        let one = customer_market(plant, plan, f, week, customer);
+    let mut pair = 0;
+    while pair < pairs {
+        let one = pair_market(plant, plan, f, pair);
         sales += one.sales.0;
         backlog += one.backlog.0;
-        customer += 1;
+        pair += 1;
     }
     Market {
         sales: Thousandths(sales),
@@ -555,53 +571,49 @@ fn week_market(plant: &[u8], plan: &[u8], f: Shape, week: usize) -> Market
     }
 }
 
-fn inventory_of(plant: &[u8], plan: &[u8], f: Shape, week: usize) -> Thousandths
+// What a week's inventory costs.
+fn inventory_charge(plant: &[u8], plan: &[u8], f: Shape, week: usize) -> Thousandths
     requires { ⌜ Judged (now plant) (now plan) f week ⌝ }
-    ensures { λ r. ⌜ (r .0 ≡ inventoryOf (plantOf f (now (plant .entry))) (planOf f (now (plan .entry))) week) × (r .0 < 2 ^ 56) ⌝ }
+    ensures { λ r. ⌜ (r .0 ≡ inventoryChargeIn (plantOf f (now (plant .entry))) (planOf f (now (plan .entry))) week) × (r .0 < 2 ^ 56) ⌝ }
 {
-    let n = count(f.products);
+    let n = as_usize(f.products);
     let mut sum = 0;
     let mut product = 0;
     while product < n {
-        let cost = plant_file::inventory_cost(plant, f, product);
-        let held = charge(
-            UnitCost(cost),
-            Grams(plan_file::inventory(plan, f, week, product)),
-        );
+        let cost = UnitCost(plant_file::inventory_cost(plant, f, product));
+        let held = charge(cost, Grams(plan_file::inventory(plan, f, week, product)));
         sum += held.0;
         product += 1;
     }
     Thousandths(sum)
 }
 
-fn changeovers_of(plant: &[u8], plan: &[u8], f: Shape, week: usize) -> Thousandths
+// What a week's changeovers cost.
+fn changeover_charge(plant: &[u8], plan: &[u8], f: Shape, week: usize) -> Thousandths
     requires { ⌜ Judged (now plant) (now plan) f week ⌝ }
-    ensures { λ r. ⌜ (r .0 ≡ changeoversOf (plantOf f (now (plant .entry))) (planOf f (now (plan .entry))) week) × (r .0 < 2 ^ 56) ⌝ }
+    ensures { λ r. ⌜ (r .0 ≡ changeoverChargeIn (plantOf f (now (plant .entry))) (planOf f (now (plan .entry))) week) × (r .0 < 2 ^ 56) ⌝ }
 {
     let over = changeovers(plant, plan, f, week);
     in_thousandths(over.cents)
 }
 
-// What a week gains and loses.
-struct WeekMoney {
-    gained: Thousandths,
-    lost: Thousandths,
-}
-
-fn week_money(plant: &[u8], plan: &[u8], f: Shape, week: usize) -> WeekMoney
-    requires { ⌜ Judged (now plant) (now plan) f week ⌝ }
-    ensures { λ r. ⌜ (r .gained .0 ≡ salesOf (plantOf f (now (plant .entry))) (planOf f (now (plan .entry))) week)
-        × (r .lost .0 ≡ costsOf (plantOf f (now (plant .entry))) (planOf f (now (plan .entry))) week)
-        × (r .gained .0 < 2 ^ 58) × (r .lost .0 < 2 ^ 58) ⌝ }
+// What changeovers and inventory cost over all weeks.
+fn running_costs(plant: &[u8], plan: &[u8], f: Shape) -> Thousandths
+    requires { ⌜ (plantForm (now plant) ≡ Good f) × (planForm f (now plan) ≡ Good f) ⌝ }
+    ensures { λ r. ⌜ (r .0 ≡ sumBelow (f .weeks) (changeoverChargeIn (plantOf f (now (plant .entry))) (planOf f (now (plan .entry))))
+        + sumBelow (f .weeks) (inventoryChargeIn (plantOf f (now (plant .entry))) (planOf f (now (plan .entry)))))
+        × (r .0 < 2 ^ 62) ⌝ }
 {
-    let changeover = changeovers_of(plant, plan, f, week);
-    let market = week_market(plant, plan, f, week);
-    let inventory = inventory_of(plant, plan, f, week);
-    let gained = market.sales;
-    WeekMoney {
-        gained,
-        lost: Thousandths(changeover.0 + market.backlog.0 + inventory.0),
+    let weeks = as_usize(f.weeks);
+    let mut sum = 0;
+    let mut week = 0;
+    while week < weeks {
+        let over = changeover_charge(plant, plan, f, week);
+        let held = inventory_charge(plant, plan, f, week);
+        sum += over.0 + held.0;
+        week += 1;
     }
+    Thousandths(sum)
 }
 
 // Whether the profit is what is gained less what is lost.
@@ -617,18 +629,11 @@ fn profit_holds(plant: &[u8], plan: &[u8], f: Shape) -> bool
     requires { ⌜ (plantForm (now plant) ≡ Good f) × (planForm f (now plan) ≡ Good f) ⌝ }
     ensures { λ r. ⌜ r ≡ rule41 (plantOf f (now (plant .entry))) (planOf f (now (plan .entry))) ⌝ }
 {
-    let weeks = count(f.weeks);
-    let mut gained = 0;
-    let mut lost = 0;
-    let mut week = 0;
-    while week < weeks {
-        let money = week_money(plant, plan, f, week);
-        gained += money.gained.0;
-        lost += money.lost.0;
-        week += 1;
-    }
+    let market = total_market(plant, plan, f);
+    let costs = running_costs(plant, plan, f);
+    let lost = Thousandths(costs.0 + market.backlog.0);
     let profit = Profit(plan_file::profit(plan, f));
-    is_profit(profit, Thousandths(gained), Thousandths(lost))
+    is_profit(profit, market.sales, lost)
 }
 
 // ---- the verdict
@@ -641,13 +646,13 @@ fn rule_in(plant: &[u8], plan: &[u8], f: Shape, n: u32, week: usize) -> bool
     match n {
         31 => marks_in(plan, f, week),
         32 => sequence_in(plan, f, week),
-        33 => passages_in(plan, f, week),
+        33 => passages_in(plant, plan, f, week),
         34 => positions_in(plan, f, week),
-        35 => runs_in(plant, plan, f, week),
+        35 => each_product(plant, plan, f, ProductRule::Run, week),
         36 => week_fits(plant, plan, f, week),
-        37 => production_in(plant, plan, f, week),
-        39 => inventory_in(plant, plan, f, week),
-        40 => storage_in(plant, plan, f, week),
+        37 => each_product(plant, plan, f, ProductRule::Production, week),
+        39 => each_product(plant, plan, f, ProductRule::Inventory, week),
+        40 => each_product(plant, plan, f, ProductRule::Storage, week),
         _ => true,
     }
 }
@@ -656,7 +661,7 @@ fn each_week(plant: &[u8], plan: &[u8], f: Shape, n: u32) -> bool
     requires { ⌜ (plantForm (now plant) ≡ Good f) × (planForm f (now plan) ≡ Good f) × (n ≡ 38 → ⊥) ⌝ }
     ensures { λ r. ⌜ r ≡ allBelow (f .weeks) (keepsOf n (trials (plantOf f (now (plant .entry))) (planOf f (now (plan .entry))))) ⌝ }
 {
-    let weeks = count(f.weeks);
+    let weeks = as_usize(f.weeks);
     let mut ok = true;
     let mut week = 0;
     while week < weeks {

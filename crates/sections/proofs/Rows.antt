@@ -1,6 +1,6 @@
 -- Rows that a good file has passed; what a file that is laid out holds. Assumes nothing.
-use Prim.Native.Nat.{ℕ, _+_, _*_, _≤_, _<_}
-use mathlib.Core.Path.{_≡_, refl, sym, ap, _∙_}
+use Prim.Native.Nat.{ℕ, _*_, _≤_, _<_}
+use mathlib.Core.Path.{_≡_, refl, ap}
 use mathlib.Core.Bool.{Bool, true, false}
 use mathlib.Core.List.{List}
 use mathlib.Core.Logic.{inl, inr}
@@ -8,13 +8,13 @@ use native.Mathlib.Omega.{arith}
 use lib.ListN.{length, getD}
 use Rattle.numbers.specs.Number.{Width}
 use Rattle.numbers.proofs.Number.{room}
-use Rattle.contents.specs.Contents.{offset, extent, Inside}
+use Rattle.contents.specs.Contents.{extent, Inside}
 use Rattle.contents.proofs.Facts.{placed-facts, sized-at, fits}
 use Rattle.sections.specs.Section.{Holds, Laid}
 use Rattle.sections.specs.Rows.{row}
 use Rattle.sections.specs.declared.Shape.{Shape}
 use Rattle.sections.specs.declared.Form.{Form}
-use Rattle.sections.specs.declared.Form.the-variants.{Good, Refused}
+use Rattle.sections.specs.declared.Form.the-variants.{Good}
 
 -- a good file has passed the row
 pub row-good : (n : ℕ) (b : Bool) (next : Form) (f : Shape) → row n b next ≡ Good f → (b ≡ true) × (next ≡ Good f)

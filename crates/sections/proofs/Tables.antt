@@ -1,11 +1,9 @@
 -- Tables in a section: the body of a section is the encoding of its numbers, and each number of a table is read back. Assumes nothing.
 use Prim.Native.Nat.{ℕ, _+_, _*_, _/_, _%_, _^_, _≤_, _<_}
-use mathlib.Core.Path.{_≡_, refl, sym, ap, _∙_}
+use mathlib.Core.Path.{_≡_, sym, ap, _∙_}
 use mathlib.Core.Bool.{true}
 use mathlib.Core.List.{List}
-use native.Mathlib.Omega.{arith}
 use native.Mathlib.Nat.{zero-add}
-use lib.ListN.{length}
 use Rattle.mathematics.specs.Below.{joinBelow, within}
 use Rattle.mathematics.proofs.Below.{all-each, within-at}
 use Rattle.mathematics.proofs.Join.{row-of, column-of, table-below, join-rows, join-table}

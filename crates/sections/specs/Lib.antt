@@ -1,2 +1,5 @@
 pub mod Section
 pub mod Rows
+pub mod Layout
+pub mod Limits
+pub mod Pairs

@@ -26,12 +26,13 @@ use Rattle.sections.specs.Section.{inRange}
 use Rattle.sections.specs.declared.Shape.{Shape}
 use Rattle.sections.specs.declared.Form.the-variants.{Good}
 use Rattle.sections.proofs.Places.{byte-most}
+use Rattle.sections.proofs.Layouts.{one-row}
 use Rattle.sections.proofs.Tables.{section-at, cube-at}
 use Rattle.sections.proofs.Bodies.{cube-length, cube-bytes}
-use Rattle.slot_file.specs.Slots.{Slot, Slots, slotCount, slotAt, slotsBefore, slotsOf, SameSlots, SlotsFit}
+use Rattle.slot_file.specs.Slots.{Slot, noSlot, Slots, slotCount, slotAt, slotsBefore, slotsOf, SameSlots, SlotsFit}
 use Rattle.slot_file.specs.Form.{slotLengths, slotsInRange, slotForm}
 use Rattle.slot_file.specs.File.{slotBytes, slotBodies, slotFile}
-use Rattle.slot_file.proofs.SlotBytes.{noSlot, bytesOf, slot-join, bytes-length}
+use Rattle.slot_file.proofs.SlotBytes.{bytesOf, slot-join, bytes-length}
 use Rattle.slot_file.proofs.SlotPlaces.{slot-listable}
 use Rattle.slot_file.proofs.SlotReads.{week-length, week-slot}
 
@@ -64,8 +65,8 @@ module _ (f : Shape) (x : Slots) where
   pub body-lengths : map length (slotBodies f x) ≡ slotLengths f total
   unfolding slotBodies
   body-lengths =
-      let a = encode-length 1 (f .weeks) count in
-      let b = join-length (f .weeks) (λ w. slotBytes (x .line .week w)) ∙ slots-length (f .weeks) in
+      let a = encode-length 1 (f .weeks) count ∙ one-row 1 (f .weeks) in
+      let b = join-length (f .weeks) (λ w. slotBytes (x .line .week w)) ∙ (slots-length (f .weeks) ∙ one-row 3 total) in
       let d = cube-length 4 (f .customers) (f .products) (f .weeks) (x .sales) in
       λ u. a u ∷ b u ∷ d u ∷ []
 
@@ -76,7 +77,7 @@ module _ (f : Shape) (x : Slots) where
   module _ (small : (f .products < 256) × (f .customers < 256) × (f .weeks < 256)) (h : SlotsFit f x) where
     -- a week's count is a byte
     count-byte : (w : ℕ) → w < f .weeks → count w ≤ 255
-    count-byte w l = omega (arith, h .few w l, small .0)
+    count-byte w l = omega (arith, h .formed w l .few, small .0)
 
     few : total ≤ 65025
     few = omega (arith, sum-mono (f .weeks) count (λ w. 255) count-byte, sum-const (f .weeks) 255, small .2)
@@ -97,7 +98,7 @@ module _ (f : Shape) (x : Slots) where
     -- ---- sections 41 and 42
     count-at : (w : ℕ) → w < f .weeks → slotCount F w ≡ count w
     unfolding slotCount slotBodies
-    count-at w l = section-at 1 F 0 (f .weeks) count (extents 0 (omega arith)) (body 0 (omega arith)) w l (omega (arith, count-byte w l))
+    count-at w l = section-at 1 F 0 (f .weeks) count (extents 0 (omega arith) ∙ sym (one-row 1 (f .weeks))) (body 0 (omega arith)) w l (omega (arith, count-byte w l))
 
     before-at : (w : ℕ) → w ≤ f .weeks → slotsBefore F w ≡ sumBelow w count
     unfolding slotsBefore
@@ -108,7 +109,7 @@ module _ (f : Shape) (x : Slots) where
     unfolding slotBodies
     week-part w l =
         let there = join-at (f .weeks) (λ i. slotBytes (x .line .week i)) F (offset F 1) (extent F 1)
-        (slots-length (f .weeks) ∙ sym (extents 1 (omega arith))) (body 1 (omega arith)) w l in
+        (slots-length (f .weeks) ∙ (one-row 3 total ∙ sym (extents 1 (omega arith)))) (body 1 (omega arith)) w l in
         rw (slots-length w, bytes-length (x .line .week w)) at there
 
     slot-part : (w k : ℕ) → w < f .weeks → k < count w
@@ -124,7 +125,7 @@ module _ (f : Shape) (x : Slots) where
     slot-at : (w k : ℕ) → w < f .weeks → k < count w → slotAt F (slotsBefore F w + k) ≡ getD (x .line .week w) k noSlot
     slot-at w k l m =
         rw (before-at w (omega arith))
-        (slot-read F (sumBelow w count + k) (getD (x .line .week w) k noSlot) (slot-part w k l m) (omega (arith, h .product w k l m, small .0))
+        (slot-read F (sumBelow w count + k) (getD (x .line .week w) k noSlot) (slot-part w k l m) (omega (arith, h .formed w l .product k m, small .0))
         (h .minutes w k l m))
 
     week-at : (w : ℕ) → w < f .weeks → slotsOf f F .line .week w ≡ x .line .week w
@@ -148,13 +149,13 @@ module _ (f : Shape) (x : Slots) where
     unfolding slotCount
     count-range w l =
         let n = count-at w l in
-        rw (zero-add w) (at-within 1 (f .products) (slotCount F w) (omega (arith, h .some w l)) (omega (arith, h .few w l)))
+        rw (zero-add w) (at-within 1 (f .products) (slotCount F w) (omega (arith, h .formed w l .some)) (omega (arith, h .formed w l .few)))
 
     product-below : (j : ℕ) → j < slotsBefore F (f .weeks) → slotAt F j .product < f .products
     product-below j l =
         let r = run-of (f .weeks) count j (omega (arith, before-at (f .weeks) (omega arith))) in
         let e : j ≡ slotsBefore F (r .which) + r .place = omega (arith, before-at (r .which) (omega (arith, r .known)), r .stands) in
-        rw (e, slot-at (r .which) (r .place) (r .known) (r .inside)) (h .product (r .which) (r .place) (r .known) (r .inside))
+        rw (e, slot-at (r .which) (r .place) (r .known) (r .inside)) (h .formed (r .which) (r .known) .product (r .place) (r .inside))
 
     in-range : slotsInRange F f ≡ true
     unfolding slotsInRange inRange

@@ -6,13 +6,9 @@ use native.Mathlib.Omega.{arith}
 use lib.ListN.{length, getD}
 use Rattle.mathematics.specs.Below.{joinBelow}
 use Rattle.numbers.specs.Number.{digits}
-use Rattle.slot_file.specs.Slots.{Slot}
+use Rattle.slot_file.specs.Slots.{Slot, noSlot}
 use Rattle.slot_file.specs.File.{slotBytes}
 use Rattle.mathematics.proofs.Join.{join-first}
-
--- what stands past a week's last slot
-abbrev pub noSlot : Slot
-noSlot = record { product = 0; minutes = 0 }
 
 -- the bytes of one slot
 abbrev pub bytesOf : Slot → List ℕ

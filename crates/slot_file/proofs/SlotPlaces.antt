@@ -34,7 +34,7 @@ module _ (f : Shape) (total : ℕ) (s : List ℕ) (z : Laid s (slotLengths f tot
 -- where section 41 has another length, row 23 turns the file down
 pub week-bytes : (f : Shape) (total : ℕ) (s : List ℕ) → (extent s 0 ≡ f .weeks → ⊥) → sized s (slotLengths f total) ≡ false
 unfolding sized
-week-bytes f total s h = simp (ne-eqb (extent s 0) (1 * f .weeks) (λ e. h (omega arith)))
+week-bytes f total s h = simp (ne-eqb (extent s 0) (1 * (1 * f .weeks)) (λ e. h (omega arith)))
 
 -- the byte of a slot's product
 pub product-at : (s : List ℕ) (j at : ℕ) → at ≡ offset s 1 + 3 * j → getD s at 0 ≡ slotAt s j .product

@@ -1,5 +1,5 @@
 -- What a slot file that passes its rows holds: the rows as facts, and the numbers of `slotsOf` within their ranges. Assumes nothing.
-use Prim.Native.Nat.{ℕ, _+_, _*_, _≤_, _<_, _^_}
+use Prim.Native.Nat.{ℕ, suc, _+_, _*_, _≤_, _<_, _^_}
 use mathlib.Core.Path.{_≡_, refl}
 use mathlib.Core.Bool.{true}
 use mathlib.Core.List.{List}
@@ -8,7 +8,7 @@ use lib.ListN.{length, getD}
 use lib.Dec.{ltb}
 use borrow.Author.Tests.{ltb-true}
 use Rattle.mathematics.specs.Below.{listBelow}
-use Rattle.mathematics.proofs.Below.{and-both, all-each}
+use Rattle.mathematics.proofs.Below.{and-both, all-each, sum-prefix}
 use Rattle.numbers.specs.Number.{Bytes, encode}
 use Rattle.numbers.proofs.Number.{number-below}
 use Rattle.contents.specs.Contents.{offset, cell, headed, placed, sized}
@@ -18,7 +18,7 @@ use Rattle.sections.specs.declared.Shape.{Shape}
 use Rattle.sections.specs.declared.Form.the-variants.{Good}
 use Rattle.sections.proofs.Tables.{range-first, cube-flat}
 use Rattle.sections.proofs.Rows.{row-good}
-use Rattle.slot_file.specs.Slots.{Slot, slotCount, slotAt, slotsBefore, slotsOf, SlotsFit}
+use Rattle.slot_file.specs.Slots.{Slot, slotCount, slotAt, slotsBefore, slotsOf, WeekFormed, SlotsFit}
 use Rattle.slot_file.specs.Form.{slotLengths, slotsInRange, slotForm}
 use Rattle.mathematics.proofs.Lists.{list-length, list-at, run-below}
 use Rattle.slot_file.proofs.SlotPlaces.{slots-held}
@@ -85,6 +85,11 @@ pub slot-below : (s : List ℕ) (n w k : ℕ) → w < n → k < slotCount s w �
 unfolding slotsBefore
 slot-below s n w k l h = run-below n (slotCount s) w k l h
 
+-- a week's slots are among all
+pub week-below : (s : List ℕ) (n w : ℕ) → w < n → slotsBefore s w + slotCount s w ≤ slotsBefore s n
+unfolding slotsBefore
+week-below s n w l = sum-prefix n (slotCount s) (suc w) l
+
 -- section 43 as a table
 pub sales-cube : (f : Shape) (s : List ℕ) → cube 4 (f .customers) (f .products) (f .weeks) (slotsOf f s .sales)
     ≡ encode 4 (f .customers * f .products * f .weeks) (cell 4 s 2)
@@ -100,16 +105,23 @@ pub sales-below : (f : Shape) (s : List ℕ) → Bytes s → (c i w : ℕ) → s
 unfolding slotsOf cell
 sales-below f s b c i w = number-below 4 s _ b
 
-pub slots-fit : (f : Shape) (s : List ℕ) → Bytes s → slotForm f s ≡ Good f → SlotsFit f (slotsOf f s)
-slots-fit f s b e =
-    let h = slot-good f f s e in
-    record {
-      some = λ w l. omega (arith, week-length f s w, h .some w l);
-      few = λ w l. omega (arith, week-length f s w, h .few w l);
-      product = λ w k l m. let n = in-week w k m in rw (week-slot f s w k _ n) (h .product (slotsBefore s w + k) (slot-below s (f .weeks) w k l n));
-      minutes = λ w k l m. rw (week-slot f s w k _ (in-week w k m)) (minutes-below s b (slotsBefore s w + k));
-      sales = λ c i w l m n. sales-below f s b c i w;
-    }
-  where
-    in-week : (w k : ℕ) → k < length (slotsOf f s .line .week w) → k < slotCount s w
-    in-week w k m = omega (arith, week-length f s w)
+module _ (f : Shape) (s : List ℕ) (e : slotForm f s ≡ Good f) where
+  pub slots-formed : (w : ℕ) → w < f .weeks → WeekFormed (f .products) (slotsOf f s .line .week w)
+  slots-formed w l =
+      let h = slot-good f f s e in
+      let n = week-length f s w in
+      record {
+        some = omega (arith, h .some w l);
+        few = omega (arith, h .few w l);
+        product = λ k m.
+            let b : k < slotCount s w = omega arith in
+            rw (week-slot f s w k _ b) (h .product (slotsBefore s w + k) (slot-below s (f .weeks) w k l b));
+      }
+
+  pub slots-fit : Bytes s → SlotsFit f (slotsOf f s)
+  slots-fit b =
+      record {
+        formed = slots-formed;
+        minutes = λ w k l m. rw (week-slot f s w k _ (omega (arith, week-length f s w))) (minutes-below s b (slotsBefore s w + k));
+        sales = λ c i w l m n. sales-below f s b c i w;
+      }

@@ -15,11 +15,12 @@ use Rattle.sections.specs.Section.{cube}
 use Rattle.sections.specs.declared.Shape.{Shape}
 use Rattle.sections.specs.declared.Form.the-variants.{Good}
 use Rattle.sections.proofs.Tables.{cube-flat, section-is}
+use Rattle.sections.proofs.Layouts.{one-row}
 use Rattle.sections.proofs.Rows.{laid-extent}
-use Rattle.slot_file.specs.Slots.{slotCount, slotAt, slotsBefore, slotsOf}
+use Rattle.slot_file.specs.Slots.{noSlot, slotCount, slotAt, slotsBefore, slotsOf}
 use Rattle.slot_file.specs.Form.{slotForm}
 use Rattle.slot_file.specs.File.{slotBytes, slotBodies, slotFile}
-use Rattle.slot_file.proofs.SlotBytes.{noSlot, bytesOf, slot-join}
+use Rattle.slot_file.proofs.SlotBytes.{bytesOf, slot-join}
 use Rattle.slot_file.proofs.SlotPlaces.{counts-held, slots-held, sales-held}
 use Rattle.slot_file.proofs.SlotReads.{SlotGood, slot-good, week-length, week-slot}
 
@@ -42,7 +43,7 @@ module _ (f : Shape) (s : List ℕ) (b : Bytes s) (e : slotForm f s ≡ Good f) 
   unfolding slotCount
   counts-body =
       encode-ext 1 (f .weeks) _ (cell 1 s 0) (λ w l. week-length f s w)
-      ∙ section-is 1 (f .weeks) s 0 b (counts-held _ _ _ (good .laid)) (laid-extent (good .laid) 0 (omega arith))
+      ∙ section-is 1 (f .weeks) s 0 b (counts-held _ _ _ (good .laid)) (laid-extent (good .laid) 0 (omega arith) ∙ sym (one-row 1 (f .weeks)))
 
   -- a week's slots, off all
   week-bytes : (w : ℕ) → slotBytes (slotsOf f s .line .week w) ≡ joinBelow (slotCount s w) (λ k. digits 3 (cell 3 s 1 (slotsBefore s w + k)))
@@ -57,7 +58,7 @@ module _ (f : Shape) (s : List ℕ) (b : Bytes s) (e : slotForm f s ≡ Good f) 
       join-ext (f .weeks) _ _ (λ w l. week-bytes w)
       ∙ (join-runs (f .weeks) (slotCount s) (λ j. digits 3 (cell 3 s 1 j))
       ∙ (encode-numbers 3 (slotsBefore s (f .weeks)) s (offset s 1) b (slots-held _ _ _ (good .laid))
-      ∙ ap (part s (offset s 1)) (sym (laid-extent (good .laid) 1 (omega arith)))))
+      ∙ ap (part s (offset s 1)) (sym (laid-extent (good .laid) 1 (omega arith) ∙ sym (one-row 3 (slotsBefore s (f .weeks)))))))
 
   sales-body : cube 4 (f .customers) (f .products) (f .weeks) (slotsOf f s .sales) ≡ part s (offset s 2) (extent s 2)
   unfolding slotsOf

@@ -6,6 +6,7 @@ use Rattle.mathematics.specs.Below.{joinBelow}
 use Rattle.numbers.specs.Number.{digits, encode}
 use Rattle.contents.specs.File.{fileOf}
 use Rattle.sections.specs.Section.{cube}
+use Rattle.sections.specs.Layout.{slotKind}
 use Rattle.sections.specs.declared.Shape.{Shape}
 use Rattle.slot_file.specs.Slots.{Slot, Slots}
 
@@ -23,4 +24,4 @@ slotBodies f x =
     ∷ []
 
 unfoldable pub slotFile : Shape → Slots → List ℕ
-slotFile f x = fileOf 3 41 (slotBodies f x)
+slotFile f x = fileOf (slotKind .number) (slotKind .first) (slotBodies f x)

@@ -8,14 +8,20 @@ use Rattle.mathematics.specs.Below.{allBelow}
 use Rattle.contents.specs.Contents.{headed, placed, sized}
 use Rattle.sections.specs.Section.{inRange}
 use Rattle.sections.specs.Rows.{row}
+use Rattle.sections.specs.Layout.{slotKind, layout, lengthsOf}
+use Rattle.sections.specs.declared.Layout.{Layout}
 use Rattle.sections.specs.declared.Shape.{Shape}
 use Rattle.sections.specs.declared.Form.{Form}
 use Rattle.sections.specs.declared.Form.the-variants.{Good}
 use Rattle.slot_file.specs.Slots.{slotAt, slotsBefore}
 
--- row 23: the length of each body, where the slots are `total` in all: 41 a byte a week, 42 three bytes a slot, 43 as section 5
+-- sections 41 to 43, where the slots are `total` in all: a byte a week; product (1 byte) and minutes (2) of a slot; section 5's order, 4 bytes
+abbrev pub slotLayout : Shape → ℕ → List Layout
+slotLayout f total = layout 1 1 (f .weeks) ∷ layout 3 1 total ∷ layout 4 (f .customers * f .products) (f .weeks) ∷ []
+
+-- row 23: the length of each body
 abbrev pub slotLengths : Shape → ℕ → List ℕ
-slotLengths f total = (1 * f .weeks) ∷ (3 * total) ∷ (4 * (f .customers * f .products * f .weeks)) ∷ []
+slotLengths f total = lengthsOf (slotLayout f total)
 
 -- row 24: each week's count 1 to N, each product below N
 unfoldable pub slotsInRange : List ℕ → Shape → Bool
@@ -25,8 +31,8 @@ slotsInRange s f =
 -- rows 21 to 24: a slot file is a file of kind 3 with sections 41 to 43; 42 is three times the sum of 41 long
 unfoldable pub slotForm : Shape → List ℕ → Form
 slotForm f s =
-    row 21 (headed s 3 41 3)
-    (row 22 (placed s 3)
+    row 21 (headed s (slotKind .number) (slotKind .first) (slotKind .sections))
+    (row 22 (placed s (slotKind .sections))
     (row 23 (sized s (slotLengths f (slotsBefore s (f .weeks))))
     (row 24 (slotsInRange s f)
     (Good f))))

@@ -1,3 +1,4 @@
 pub mod Slots
 pub mod Form
 pub mod File
+pub mod Row

@@ -1,8 +1,8 @@
 -- The numbers of a slot file, section by section, as paper 01 lists them under "Files". Weeks, products and customers count from 0.
 -- Assumes nothing.
-use Prim.Native.Nat.{ℕ, _+_, _*_, _<_, _^_}
+use Prim.Native.Nat.{ℕ, _+_, _*_, _≤_, _<_, _^_}
 use mathlib.Core.Path.{_≡_}
-use mathlib.Core.List.{List}
+use mathlib.Core.List.{List, [], _∷_}
 use lib.ListN.{length, getD}
 use Rattle.mathematics.specs.Below.{sumBelow, listBelow}
 use Rattle.numbers.specs.Number.{numberAt}
@@ -13,6 +13,21 @@ use Rattle.sections.specs.declared.Shape.{Shape}
 pub record Slot : Type 0 where
   pub product : ℕ
   pub minutes : ℕ
+
+-- what stands past the end of a list of slots
+abbrev pub noSlot : Slot
+noSlot = record { product = 0; minutes = 0 }
+
+-- the products in running order
+abbrev pub orderOfSlots : List Slot → List ℕ
+orderOfSlots [] = []
+orderOfSlots (x ∷ xs) = x .product ∷ orderOfSlots xs
+
+-- row 24, of a week: 1 to N slots, each of a product below N
+pub record WeekFormed (N : ℕ) (xs : List Slot) : Type 0 where
+  pub some : 0 < length xs
+  pub few : length xs ≤ N
+  pub product : (k : ℕ) → k < length xs → getD xs k noSlot .product < N
 
 -- what belongs to one production line: sections 41 and 42, each week's slots in running order
 pub record LineSlots : Type 0 where
@@ -50,10 +65,7 @@ pub record SameSlots (f : Shape) (a b : Slots) : Type 0 where
 
 -- the numbers fit their sections
 pub record SlotsFit (f : Shape) (a : Slots) : Type 0 where
-  -- row 24
-  pub some : (w : ℕ) → w < f .weeks → 0 < length (a .line .week w)
-  pub few : (w : ℕ) → w < f .weeks → length (a .line .week w) < f .products + 1
-  pub product : (w k : ℕ) → w < f .weeks → k < length (a .line .week w) → getD (a .line .week w) k (record { product = 0; minutes = 0 }) .product < f .products
+  pub formed : (w : ℕ) → w < f .weeks → WeekFormed (f .products) (a .line .week w)
   -- widths
-  pub minutes : (w k : ℕ) → w < f .weeks → k < length (a .line .week w) → getD (a .line .week w) k (record { product = 0; minutes = 0 }) .minutes < 2 ^ 16
+  pub minutes : (w k : ℕ) → w < f .weeks → k < length (a .line .week w) → getD (a .line .week w) k noSlot .minutes < 2 ^ 16
   pub sales : (c i w : ℕ) → c < f .customers → i < f .products → w < f .weeks → a .sales c i w < 2 ^ 32

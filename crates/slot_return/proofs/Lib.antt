@@ -1,2 +1,1 @@
 pub mod ShownFile
-pub mod PassedPlan

@@ -5,10 +5,8 @@ use mathlib.Core.List.{List, [], _∷_, _++_, map, append-nil}
 use native.Mathlib.Omega.{arith}
 use native.Mathlib.Nat.{mul-comm}
 use lib.ListN.{length}
-use lib.Dec.{eqb}
 use borrow.Rule.Slice.PartMut.{midOf, putMid}
-use borrow.Author.Tests.{eq-eqb, ne-eqb}
-use Rattle.mathematics.specs.Below.{sumBelow, joinBelow, listBelow, firstBelow}
+use Rattle.mathematics.specs.Below.{sumBelow, joinBelow, listBelow}
 use Rattle.mathematics.specs.Order.{orderOf}
 use Rattle.mathematics.proofs.Below.{sum-ext, sum-mul, sum-prefix}
 use Rattle.mathematics.proofs.Join.{join-first, join-length, even-length}
@@ -16,33 +14,20 @@ use Rattle.mathematics.proofs.OrderTheorem.{order-length}
 use Rattle.numbers.specs.Number.{digits, encode, store}
 use Rattle.numbers.proofs.Number.{encode-ext}
 use Rattle.numbers.proofs.Store.{part-store}
-use Rattle.contents.specs.Contents.{cell}
 use Rattle.contents.specs.File.{start, contentsBytes}
 use Rattle.contents.proofs.FileStored.{firstBodies, body-stored, all-stored}
 use Rattle.contents.proofs.FileWritten.{file-length as laid-length}
+use Rattle.sections.specs.Section.{cube}
 use Rattle.sections.specs.declared.Shape.{Shape}
-use Rattle.plan_file.proofs.PlanReads.{sales-cube}
-use Rattle.plant_file.specs.Plant.{plantOf}
 use Rattle.plan_file.specs.Plan.{planOf}
 use Rattle.slot_file.specs.Form.{slotLengths}
 use Rattle.slot_file.specs.File.{slotBytes, slotBodies, slotFile}
 use Rattle.slot_file.proofs.SlotBytes.{bytes-length}
 use Rattle.slot_file.proofs.FileIsSlots.{body-lengths}
 use Rattle.rules.specs.Rules.{weekOf}
-use Rattle.model.specs.Match.{slotsFor, slotsShown}
-use Rattle.slot_return.specs.Shown.{weekCount, weekProduct, weekSlots, shownIn, bodyOf}
-
--- ---- the first number of a table with a value
-pub first-is : (n : ℕ) (f : ℕ → ℕ) (v i : ℕ) → i < n → ((j : ℕ) → j < i → f j ≡ v → ⊥) → f i ≡ v
-    → i ≡ firstBelow n (λ j. eqb (f j) v)
-first-is zero f v i l h e = absurd (omega arith)
-first-is (suc n) f v zero l h e = rw (eq-eqb (f 0) v e)
-first-is (suc n) f v (suc i) l h e =
-    rw (ne-eqb (f 0) v (h 0 (omega arith))) (ap suc (first-is n (λ j. f (suc j)) v i (omega arith) (λ j m. h (suc j) (omega arith)) e))
-
-pub none-is : (n : ℕ) (f : ℕ → ℕ) (v : ℕ) → ((j : ℕ) → j < n → f j ≡ v → ⊥) → n ≡ firstBelow n (λ j. eqb (f j) v)
-none-is zero f v h = refl
-none-is (suc n) f v h = rw (ne-eqb (f 0) v (h 0 (omega arith))) (ap suc (none-is n (λ j. f (suc j)) v (λ j m. h (suc j) (omega arith))))
+use Rattle.model.specs.Match.{slotsFor, lineShown, slotsShown}
+use Rattle.passed_plan.specs.Shown.{weekCount, weekProduct, weekSlots, shownIn}
+use Rattle.slot_return.specs.Bodies.{bodyOf}
 
 -- ---- the slots of an order
 order-slots : (minutes : ℕ → ℕ) (ps : List ℕ) → length (slotsFor minutes ps) ≡ length ps
@@ -69,13 +54,13 @@ places-length f s w k = even-length k 3 (slotOf f s w) (λ i. refl) ∙ mul-comm
 
 module _ (f : Shape) (s : List ℕ) where
   week-length : (w : ℕ) → length (weekSlots f s w) ≡ weekCount f s w
-  unfolding weekSlots weekCount
+  unfolding slotsShown lineShown weekCount
   week-length w =
       order-slots (planOf f s .line .minutes w) (orderOf (f .products) (weekOf (planOf f s .line) w))
       ∙ order-length (f .products) (weekOf (planOf f s .line) w)
 
   pub week-bytes : (w : ℕ) → slotBytes (weekSlots f s w) ≡ joinBelow (weekCount f s w) (slotOf f s w)
-  unfolding weekSlots weekCount weekProduct orderOf
+  unfolding slotsShown lineShown weekCount weekProduct orderOf
   week-bytes w =
       order-bytes (planOf f s .line .minutes w) (weekCount f s w) (weekProduct f s w)
 
@@ -91,22 +76,16 @@ module _ (f : Shape) (s : List ℕ) where
 
   -- ---- the bodies
   pub counts-body : encode 1 (f .weeks) (weekCount f s) ≡ bodyOf f s 0
-  unfolding slotBodies shownIn
+  unfolding slotBodies slotsShown
   counts-body = encode-ext 1 (f .weeks) _ _ (λ w l. sym (week-length w))
 
-  pub sales-body : encode 4 (f .customers * f .products * f .weeks) (cell 4 s 8) ≡ bodyOf f s 2
-  unfolding slotBodies shownIn
-  sales-body = sym (sales-cube f s)
+  pub sales-body : cube 4 (f .customers) (f .products) (f .weeks) (planOf f s .sales) ≡ bodyOf f s 2
+  unfolding slotBodies slotsShown
+  sales-body = refl
 
   pub lengths : map length (slotBodies f (shownIn f s)) ≡ slotLengths f (sumBelow (f .weeks) (weekCount f s))
-  unfolding shownIn
   lengths =
       body-lengths f (shownIn f s) ∙ ap (slotLengths f) (sum-ext (f .weeks) _ (weekCount f s) (λ w l. week-length w))
-
-  -- they are those of `slotsShown`
-  pub shown-is : (plant : List ℕ) → slotsShown (plantOf f plant) (planOf f s) ≡ shownIn f s
-  unfolding slotsShown shownIn weekSlots
-  shown-is plant = refl
 
   pub file-length : length (slotFile f (shownIn f s)) ≡ start (slotLengths f (sumBelow (f .weeks) (weekCount f s))) 3
   unfolding slotFile slotBodies

@@ -11,76 +11,28 @@ ghost use Rattle.slot_file.specs.Form.{slotLengths};
 ghost use Rattle.slot_file.specs.File.{slotBytes, slotFile};
 ghost use Rattle.calls.specs.declared.Written.the-variants.{Length};
 ghost use Rattle.calls.specs.Answer.{bytes, slotAnswer, writtenIn, outputAfter};
-ghost use Rattle.slot_return.specs.Shown.{weekCount, weekProduct, weekSlots, shownIn, bodyOf, Ordered};
+ghost use Rattle.passed_plan.specs.Shown.{weekCount, weekSlots, shownIn, Ordered};
+ghost use Rattle.slot_return.specs.Bodies.{bodyOf};
 use calls::Written;
 use calls::refuse;
-use contents::cell_in;
 use numbers::write;
-use plan_file::plan_form;
-use plant_file::plant_form;
-use rules::Verdict;
-use rules::judge;
-use sections::Form;
+use passed_plan::Judgement;
+use passed_plan::judge_files;
+use passed_plan::product_at;
+use passed_plan::slot_total;
+use passed_plan::week_count;
 use sections::Shape;
-use sections::volume;
 use slot_file::section_start;
 use slot_file::slot_length;
 use slot_file::write_contents;
 use slot_file::write_slot;
-
-// How many slots a week has.
-pub fn week_count(plan: &[u8], f: Shape, week: usize) -> usize
-    requires { ⌜ (planForm f (now plan) ≡ Good f) × (week < f .weeks) ⌝ }
-    ensures { λ r. ⌜ (r ≡ weekCount f (now (plan .entry)) week) × (r ≤ f .products) ⌝ }
-{
-    let n = numbers::count(f.products);
-    let mut sum = 0;
-    let mut i = 0;
-    while i < n {
-        sum += plan_file::assigned(plan, f, week, i) as usize;
-        i += 1;
-    }
-    sum
-}
-
-// How many slots there are in all.
-fn slot_total(plan: &[u8], f: Shape) -> usize
-    requires { ⌜ planForm f (now plan) ≡ Good f ⌝ }
-    ensures { λ r. ⌜ (r ≡ sumBelow (f .weeks) (weekCount f (now (plan .entry)))) × (r ≤ 65025) ⌝ }
-{
-    let weeks = numbers::count(f.weeks);
-    let mut sum = 0;
-    let mut week = 0;
-    while week < weeks {
-        sum += week_count(plan, f, week);
-        week += 1;
-    }
-    sum
-}
-
-// The product of slot k of a week: the first whose place in the week is k + 1, or N where there is none.
-pub fn product_at(plan: &[u8], f: Shape, week: usize, k: usize) -> usize
-    requires { ⌜ (planForm f (now plan) ≡ Good f) × (week < f .weeks) × (k < 256) ⌝ }
-    ensures { λ r. ⌜ r ≡ weekProduct f (now (plan .entry)) week k ⌝ }
-{
-    let n = numbers::count(f.products);
-    let place = k as u64 + 1;
-    let mut i = 0;
-    while i < n {
-        if plan_file::position(plan, f, week, i) == place {
-            return i;
-        }
-        i += 1;
-    }
-    n
-}
 
 // Stores section 41: the slots per week.
 fn write_counts(out: &mut [u8], plan: &[u8], f: Shape)
     requires { ⌜ (planForm f (now plan) ≡ Good f) × (f .weeks ≤ length (now out)) ⌝ }
     ensures { λ _. ⌜ now (out .exit) ≡ store (now (out .entry)) 0 (bodyOf f (now (plan .entry)) 0) ⌝ }
 {
-    let weeks = numbers::count(f.weeks);
+    let weeks = numbers::as_usize(f.weeks);
     let mut week = 0;
     while week < weeks {
         write(out, week, 1, week_count(plan, f, week) as u64);
@@ -100,7 +52,7 @@ fn write_week(out: &mut [u8], plan: &[u8], f: Shape, week: usize)
         let product = product_at(plan, f, week, k);
         let minutes = plan_file::minutes(plan, f, week, product);
         write_slot(&mut out[p..], product as u64, minutes);
-        p += 3;
+        p += slot_file::SLOT_BYTES;
         k += 1;
     }
 }
@@ -110,28 +62,13 @@ fn write_weeks(out: &mut [u8], plan: &[u8], f: Shape)
     requires { ⌜ Ordered f (now plan) × (3 * sumBelow (f .weeks) (weekCount f (now plan)) ≤ length (now out)) ⌝ }
     ensures { λ _. ⌜ now (out .exit) ≡ store (now (out .entry)) 0 (bodyOf f (now (plan .entry)) 1) ⌝ }
 {
-    let weeks = numbers::count(f.weeks);
+    let weeks = numbers::as_usize(f.weeks);
     let mut p = 0;
     let mut week = 0;
     while week < weeks {
         write_week(&mut out[p..], plan, f, week);
-        p += 3 * week_count(plan, f, week);
+        p += slot_file::SLOT_BYTES * week_count(plan, f, week);
         week += 1;
-    }
-}
-
-// Stores section 43: the plan's sales, which stand in the same order.
-fn write_sales(out: &mut [u8], plan: &[u8], f: Shape)
-    requires { ⌜ (planForm f (now plan) ≡ Good f) × (4 * (f .customers * f .products * f .weeks) ≤ length (now out)) ⌝ }
-    ensures { λ _. ⌜ now (out .exit) ≡ store (now (out .entry)) 0 (bodyOf f (now (plan .entry)) 2) ⌝ }
-{
-    let m = volume(f.customers, f.products, f.weeks);
-    let mut p = 0;
-    let mut j = 0;
-    while j < m {
-        write(out, p, 4, cell_in(plan, 8, 4, j));
-        p += 4;
-        j += 1;
     }
 }
 
@@ -142,12 +79,12 @@ fn write_file(out: &mut [u8], plan: &[u8], f: Shape, total: usize)
     ensures { λ _. ⌜ now (out .exit) ≡ store (now (out .entry)) 0 (slotFile f (shownIn f (now (plan .entry)))) ⌝ }
 {
     write_contents(out, f, total);
-    let counts = section_start(f, total, 0);
+    let counts = section_start(f, total, slot_file::COUNTS);
     write_counts(&mut out[counts..], plan, f);
-    let slots = section_start(f, total, 1);
+    let slots = section_start(f, total, slot_file::SLOTS);
     write_weeks(&mut out[slots..], plan, f);
-    let sales = section_start(f, total, 2);
-    write_sales(&mut out[sales..], plan, f);
+    let sales = section_start(f, total, slot_file::SALES);
+    plan_file::write_sales(&mut out[sales..], plan, f);
 }
 
 // Writes the file, and says its length.
@@ -179,14 +116,11 @@ pub fn slot_return(plant: &[u8], plan: &[u8], out: &mut [u8]) -> Written
     ensures result { λ r. ⌜ r ≡ writtenIn (slotAnswer (now (plant .entry)) (now (plan .entry))) (now (out .entry)) ⌝ }
     ensures output { λ _. ⌜ now (out .exit) ≡ outputAfter (slotAnswer (now (plant .entry)) (now (plan .entry))) (now (out .entry)) ⌝ }
 {
-    match plant_form(plant) {
-        Form::Refused(n) => refuse(out, n),
-        Form::Good(f) => match plan_form(plan, f) {
-            Form::Refused(n) => refuse(out, n),
-            Form::Good(_) => match judge(plant, plan, f) {
-                Verdict::Broken(n) => refuse(out, n),
-                Verdict::Passed(_) => return_slots(out, plan, f),
-            },
-        },
+    match judge_files(plant, plan) {
+        Judgement::Refused(n) => refuse(out, n),
+        Judgement::Passed(p) => {
+            let f = p.shape;
+            return_slots(out, plan, f)
+        }
     }
 }

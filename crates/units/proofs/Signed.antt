@@ -1,10 +1,10 @@
 -- The size of a signed sum and difference, and what the machine's own are. Assumes nothing.
 use Prim.Native.Nat.{ℕ, zero, suc, _+_, _-_, _≤_, _<_, _^_}
-use mathlib.Core.Path.{_≡_}
+use mathlib.Core.Path.{_≡_, sym, ap, _∙_}
 use mathlib.Core.Bool.{Bool, true, false, cond}
 use native.Mathlib.Omega.{arith}
 use lib.Dec.{ltb}
-use lib.IntN.{ℤ, pos, negsuc, _+ℤ_, _-ℤ_}
+use lib.IntN.{ℤ, pos, negsuc, negℤ, _+ℤ_, _-ℤ_, +ℤ-assoc, negℤ-+ℤ, pos-+ℤ-pos}
 use lib.Signed.{mag}
 use mir.Syntax.{w64}
 use mir.Val.{SFits, toZ, ofZ}
@@ -23,6 +23,10 @@ mag-sub (negsuc a) (suc n) = omega arith
 pub mag-add : (z : ℤ) (n : ℕ) → mag (z +ℤ pos n) ≤ mag z + n
 mag-add (pos a) n = omega arith
 mag-add (negsuc a) n = let h = mag-cond n a (ltb n (suc a)) in omega arith
+
+-- two losses are one
+pub lose-lose : (z : ℤ) (a b : ℕ) → z -ℤ pos a -ℤ pos b ≡ z -ℤ pos (a + b)
+lose-lose z a b = +ℤ-assoc z (negℤ (pos a)) (negℤ (pos b)) ∙ ap (λ (x : ℤ). z +ℤ x) (sym (negℤ-+ℤ (pos a) (pos b)) ∙ ap negℤ (pos-+ℤ-pos a b))
 
 -- the bits of a number that fits, read back
 pub back : (z : ℤ) → mag z < 2 ^ 63 → toZ w64 (ofZ w64 z) ≡ z

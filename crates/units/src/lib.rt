@@ -3,12 +3,19 @@ ghost use mathlib.Core.Path.{_≡_};
 ghost use Prim.Native.Nat.{_+_, _*_, _^_, _≤_, _<_};
 ghost use lib.IntN.{pos, _+ℤ_, _-ℤ_};
 ghost use lib.Signed.{mag};
+ghost use Rattle.sections.specs.Limits.{mostRate, mostUnitCost};
 
 // Time.
 pub struct Minutes(pub u64);
 
 // Mass.
 pub struct Grams(pub u64);
+
+// Mass of each product.
+pub struct ProductGrams(pub [u64; 16]);
+
+// Mass of each pair of a customer and a product.
+pub struct PairGrams(pub [u32; 128]);
 
 // Grams a minute.
 pub struct Rate(pub u64);
@@ -33,7 +40,7 @@ pub struct Changeover {
 
 // The mass that a run makes: rate times minutes.
 pub fn produced(rate: Rate, time: Minutes) -> Grams
-    requires { ⌜ (rate .0 ≤ 100000) × (time .0 < 2 ^ 16) ⌝ }
+    requires { ⌜ (rate .0 ≤ mostRate) × (time .0 < 2 ^ 16) ⌝ }
     ensures { λ r. ⌜ (r .0 ≡ rate .0 * time .0) × (r .0 < 2 ^ 33) ⌝ }
 {
     Grams(rate.0 * time.0)
@@ -41,8 +48,8 @@ pub fn produced(rate: Rate, time: Minutes) -> Grams
 
 // What a mass costs.
 pub fn charge(cost: UnitCost, mass: Grams) -> Thousandths
-    requires { ⌜ (cost .0 ≤ 100000) × (mass .0 < 2 ^ 40) ⌝ }
-    ensures { λ r. ⌜ (r .0 ≡ cost .0 * mass .0) × (r .0 ≤ 100000 * mass .0) ⌝ }
+    requires { ⌜ (cost .0 ≤ mostUnitCost) × (mass .0 < 2 ^ 40) ⌝ }
+    ensures { λ r. ⌜ (r .0 ≡ cost .0 * mass .0) × (r .0 ≤ mostUnitCost * mass .0) ⌝ }
 {
     Thousandths(cost.0 * mass.0)
 }

@@ -1,7 +1,7 @@
 -- `contents::cell_in` meets its contract. Assumes nothing.
 use borrow.Author.Needs.{needs}
 use native.Mathlib.Omega.{arith}
-use mathlib.Core.Path.{_≡_, ap}
+use mathlib.Core.Path.{ap}
 use Rattle.contents.specs.Contents.{cell}
 use Rattle.contents.specs.declared.Entry.{Entry}
 use Rattle.contents.proofs.cell_in.Statement.{statement}

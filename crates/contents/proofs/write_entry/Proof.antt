@@ -1,6 +1,6 @@
 -- `contents::write_entry` meets its contract: three stores, each where the one before ends. Assumes nothing.
 use borrow.Author.Needs.{needs}
-use mathlib.Core.Path.{_≡_, ap, _∙_}
+use mathlib.Core.Path.{ap, _∙_}
 use mathlib.Core.List.{List}
 use Prim.Native.Nat.{ℕ}
 use Rattle.numbers.specs.Number.{digits, store}

@@ -18,8 +18,6 @@ report-all-spec =
     μ-loop
     (λ c κs. search needs)
     (λ c. tt)
-    (λ c κs. search needs)
-    (λ c. search needs)
-    (λ c. search needs)
+    (λ c κs. search needs) (λ c. search needs) (λ c. search needs)
     (λ c. tt)
     (λ c. search needs))

@@ -20,7 +20,7 @@ abbrev μ-loop : tie.MeasureT-loop
 
 -- the product has a place in the array
 place : (c : tie.In-loop Inv-loop μ-loop) → c .before .loop .product + 1 ≤ 16
-place c = omega (arith, c .loop-test .taken, c .before .before .count .ensures .0, counts _ _ (c .before .before .before .before .pre) .products)
+place c = omega (arith, c .loop-test .taken, c .before .before .as-usize .ensures .0, counts _ _ (c .before .before .before .before .pre) .products)
 
 loop-again : tie.Need-loop-again Inv-loop μ-loop
 loop-again c =
@@ -43,7 +43,6 @@ opening-row-spec =
     (λ c κs. search needs)
     (λ c. omega (arith, place (c .before)))
     (λ c. omega (arith, place (c .before)))
-    (λ c. search needs)
-    (λ c. search needs)
+    (λ c. search needs) (λ c. search needs)
     loop-again
     returns)

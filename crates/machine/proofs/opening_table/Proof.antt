@@ -46,9 +46,9 @@ opening-table-spec =
     (λ c κs. search needs)
     (λ c. (search needs, refl))
     (λ c κs. search needs)
+    (λ c. omega (arith, c .pair-opening-backlog .ensures .1))
     (λ c. omega (arith, place (c .before)))
     (λ c. omega (arith, place (c .before)))
-    (λ c. search needs)
-    (λ c. search needs)
+    (λ c. search needs) (λ c. search needs)
     loop-again
     returns)

@@ -22,8 +22,7 @@ pub read-spec : {M : Type 1} → statement M
 read-spec =
     tie.close
     (tie.spec
-    (λ c. search needs)
-    (λ c κs. search needs)
+    (λ c. search needs) (λ c κs. search needs)
     (λ c. rw (c .before .before .if1 .taken) (omega arith))
     (λ c κs. search needs)
     (λ c. rw (c .before .if2 .taken) (omega arith))

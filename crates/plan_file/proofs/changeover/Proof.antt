@@ -1,20 +1,17 @@
 -- `plan_file::changeover` meets its contract. Assumes nothing.
 use borrow.Author.Needs.{needs}
-use native.Mathlib.Omega.{arith}
-use mathlib.Core.Path.{refl}
-use Rattle.sections.proofs.Rows.{width1}
-use Rattle.plan_file.specs.Plan.{linePlanOf, planOf}
-use Rattle.plan_file.proofs.PlanReads.{plan-good}
-use Rattle.plan_file.proofs.Access.{inside, bit}
+use mathlib.Core.Path.{_∙_}
+use Rattle.mathematics.proofs.Pairs.{table-at}
+use Rattle.plan_file.specs.Plan.{planOf}
+use Rattle.plan_file.specs.Tables.{changeoverTableOf}
 use Rattle.plan_file.proofs.changeover.Statement.{statement}
 use Rattle.plan_file.proofs.changeover.Tie as tie
 
-cell-in-requires : tie.Need-cell-in-requires
-cell-in-requires c κs = inside _ _ (c .before .before .pre .0) _ (omega arith) width1 refl (c .index3 .ensures .1)
-
 returns : tie.Need-returns
-unfolding planOf linePlanOf
-returns c = bit _ _ (plan-good _ _ (c .before .before .before .pre .0) .bits .changeover) (c .cell-in .ensures) (c .before .index3 .ensures)
+returns c =
+    let a = c .before .before .before .args in
+    let r = c .arc-changeover .ensures in
+    (r .0 ∙ table-at (changeoverTableOf (a .table) (planOf (a .f) (a .s .now) .line) (a .week)) (c .before .index2 .ensures .0) (c .before .before .before .pre .3), r .1)
 
 pub changeover-spec : {M : Type 1} → statement M
-changeover-spec = tie.close (tie.spec (λ c κs. search needs) cell-in-requires returns)
+changeover-spec = tie.close (tie.spec (λ c κs. search needs) (λ c κs. search needs) returns)

@@ -1,7 +1,8 @@
 -- `plan_file::is_binary` meets its contract. Assumes nothing.
 use borrow.Author.Needs.{needs}
+use Rattle.sections.proofs.Layouts.{table-rows}
 use native.Mathlib.Omega.{arith}
-use mathlib.Core.Path.{refl}
+use mathlib.Core.Path.{refl, sym}
 use Rattle.sections.proofs.Rows.{width1}
 use Rattle.plan_file.specs.Form.{binary}
 use Rattle.plan_file.proofs.Lengths.{holds}
@@ -31,15 +32,11 @@ pub is-binary-spec : {M : Type 1} → statement M
 is-binary-spec =
     tie.close
     (tie.spec
-    (λ c κs. search needs)
-    (λ c κs. search needs)
+    (λ c κs. search needs) (λ c κs. search needs)
     (λ c κs. holds _ (c .before .before .before .pre) _ (omega arith) width1 refl (c .before .area .ensures .0))
     (λ c κs. let k = c .before in holds _ (k .before .before .before .pre) _ (omega arith) width1 refl (k .before .area .ensures .0))
     (λ c κs. let k = c .before .before in holds _ (k .before .before .before .pre) _ (omega arith) width1 refl (k .before .area .ensures .0))
-    (λ c κs. let k = c .before .before .before in holds _ (k .before .before .before .pre) _ (omega arith) width1 refl (k .volume .ensures .0))
-    (λ c κs. let k = c .before .before .before .before in holds _ (k .before .before .before .pre) _ (omega arith) width1 refl (k .volume .ensures .0))
-    (λ c κs. search needs)
-    (λ c κs. search needs)
-    (λ c κs. search needs)
-    (λ c κs. search needs)
+    (λ c κs. let k = c .before .before .before in holds _ (k .before .before .before .pre) _ (omega arith) width1 (sym (table-rows 1 _ _ _)) (k .volume .ensures .0))
+    (λ c κs. let k = c .before .before .before .before in holds _ (k .before .before .before .pre) _ (omega arith) width1 (sym (table-rows 1 _ _ _)) (k .volume .ensures .0))
+    (λ c κs. search needs) (λ c κs. search needs) (λ c κs. search needs) (λ c κs. search needs)
     returns)

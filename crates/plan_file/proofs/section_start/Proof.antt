@@ -56,7 +56,6 @@ section-start-spec =
     (λ c. search needs)
     (λ c. omega (arith, twelve (c .before .before), c .before .before .before .pre))
     add-at
-    (λ c. search needs)
-    (λ c. search needs)
+    (λ c. search needs) (λ c. search needs)
     loop-again
     returns)

@@ -20,7 +20,7 @@ abbrev μ-loop : tie.MeasureT-loop
 array-write-row : tie.Need-array-write-row Inv-loop μ-loop
 array-write-row c =
     let s = c .before .before .before .before .before in
-    omega (arith, c .before .loop-test .taken, c .before .before .before .count .ensures .0, few-products (s .args .f) (s .args .plant .now) (s .pre))
+    omega (arith, c .before .loop-test .taken, c .before .before .before .as-usize .ensures .0, few-products (s .args .f) (s .args .plant .now) (s .pre))
 
 loop-again : tie.Need-loop-again Inv-loop μ-loop
 loop-again c =
@@ -43,10 +43,8 @@ opening-row-spec =
     μ-loop
     (λ c κs. search needs)
     (λ c. (search needs, refl, λ j l. absurd (omega arith)))
-    (λ c κs. search needs)
-    (λ c. search needs)
+    (λ c κs. search needs) (λ c. search needs)
     array-write-row
-    (λ c. search needs)
-    (λ c. search needs)
+    (λ c. search needs) (λ c. search needs)
     loop-again
     returns)

@@ -17,7 +17,7 @@ use Rattle.machine.specs.Run.{run}
 use Rattle.model.specs.RunTables.{runTables}
 use Rattle.calls.specs.Answer.{bytes, planAnswer}
 use Rattle.calls.proofs.Output.{refused-as}
-use Rattle.plan_writing.specs.Run.{Ran}
+use Rattle.plan_writing.specs.Ran.{Ran}
 use Rattle.plan_writing.proofs.RunWeeks.{profit-is}
 use Rattle.plan_writing.proofs.plan_writing.Statement.{statement}
 use Rattle.plan_writing.proofs.plan_writing.Tie as tie
@@ -50,7 +50,7 @@ ran c =
     record {
       plant-good = plant-good (c .before .before .before .before .before .before);
       slots-good = slots-good (c .before .before .before);
-      goes = sym (ap (λ (r : Step). r .outcome) (c .before .before .run .ensures)) ∙ c .enum-told2 .given .1;
+      continued = sym (ap (λ (r : Step). r .outcome) (c .before .before .run .ensures)) ∙ c .enum-told2 .given .1;
     }
 
 -- or stops
@@ -97,7 +97,7 @@ returns-4 c =
     let a = start d .args in
     let h = ran k in
     let e : planAnswer (a .plant .now) (a .slots .now) ≡ bytes (planFile (shape d) (runTables (plant d) (slots d))) =
-    rw (h .plant-good, h .slots-good, h .goes) in
+    rw (h .plant-good, h .slots-good, h .continued) in
     let r = c .before .before .write-tables .ensures in
     (rw e (r .0), rw e (r .1))
 
@@ -105,19 +105,10 @@ pub plan-writing-spec : {M : Type 1} → statement M
 plan-writing-spec =
     tie.close
     (tie.spec
-    (λ c κs. search needs)
-    (λ c. search needs)
-    (λ c κs. search needs)
-    (λ c. search needs)
-    (λ c κs. search needs)
-    (λ c. search needs)
-    (λ c κs. search needs)
-    (λ c. search needs)
+    (λ c κs. search needs) (λ c. search needs) (λ c κs. search needs) (λ c. search needs) (λ c κs. search needs) (λ c. search needs)
+    (λ c κs. search needs) (λ c. search needs)
     (λ c κs. (plant-good (c .before .before .before), slots-good c))
-    (λ c. search needs)
-    (λ c κs. search needs)
-    (λ c. search needs)
-    (λ c κs. search needs)
+    (λ c. search needs) (λ c κs. search needs) (λ c. search needs) (λ c κs. search needs)
     write-tables-requires
     (λ c. search needs)
     returns

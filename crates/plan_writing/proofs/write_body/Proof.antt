@@ -2,8 +2,9 @@
 use borrow.Author.Needs.{needs}
 use native.Mathlib.Omega.{arith}
 use mathlib.Core.Path.{_≡_, sym, ap, _∙_}
+use mathlib.Core.Logic.{_≢_}
 use mathlib.Core.List.{List, []}
-use Prim.Native.Nat.{ℕ, _≤_}
+use Prim.Native.Nat.{ℕ, _+_, _≤_, _<_}
 use lib.ListN.{length, getD}
 use Rattle.numbers.specs.Number.{digits, store}
 use Rattle.plant_file.specs.Plant.{plantOf}
@@ -38,15 +39,34 @@ returns-2 c =
     let s = c .before .before .before .before .before .before .before .before .before in
     c .before .before .write-inventory .ensures ∙ ap (store (s .args .out .now) 0) (ap (body s) (sym (c .before .before .before .before .if2 .taken)))
 
-write-requires : tie.Need-write-requires
-write-requires c κs = omega (arith, room (c .before .before .before .before .before .before .before) 11 (c .before .if3 .taken))
+write-backlog-requires : tie.Need-write-backlog-requires
+write-backlog-requires c κs =
+    let s = c .before .before .before .before .before .before .before in (s .pre .0, room s 10 (c .before .if3 .taken))
 
 returns-3 : tie.Need-returns-3
-unfolding planBodies
 returns-3 c =
     let s = c .before .before .before .before .before .before .before .before .before .before in
-    let place = c .before .before .before .before .if3 .taken in
+    c .before .before .write-backlog .ensures ∙ ap (store (s .args .out .now) 0) (ap (body s) (sym (c .before .before .before .before .if3 .taken)))
+
+write-requires : tie.Need-write-requires
+write-requires c κs = omega (arith, room (c .before .before .before .before .before .before .before .before) 11 (c .before .if4 .taken))
+
+returns-4 : tie.Need-returns-4
+unfolding planBodies
+returns-4 c =
+    let s = c .before .before .before .before .before .before .before .before .before .before .before in
+    let place = c .before .before .before .before .if4 .taken in
     c .before .before .write .ensures ∙ ap (store (s .args .out .now) 0) (ap (digits 8) (s .pre .1) ∙ ap (body s) (sym place))
+
+-- any other place is one of the line's
+write-line-requires : tie.Need-write-line-requires
+write-line-requires c κs =
+    let d = c .before in
+    let s = d .before .before .before .before .before .before .before in
+    (s .pre .0, less (less (less (less (s .pre .2) (d .if4 .left)) (d .before .if3 .left)) (d .before .before .if2 .left)) (d .before .before .before .if1 .left), s .pre .3)
+  where
+    less : {n p : ℕ} → p < n + 1 → p ≢ n → p < n
+    less l d = omega arith
 
 pub write-body-spec : {M : Type 1} → statement M
 write-body-spec =
@@ -58,9 +78,11 @@ write-body-spec =
     write-inventory-requires
     (λ c. search needs)
     returns-2
-    write-requires
+    write-backlog-requires
     (λ c. search needs)
     returns-3
-    (λ c κs. search needs)
+    write-requires
     (λ c. search needs)
-    (λ c. search needs))
+    returns-4
+    write-line-requires
+    (λ c. search needs) (λ c. search needs))

@@ -88,8 +88,7 @@ write-file-spec =
     (λ c. omega (arith, inside c))
     (λ c. omega (arith, inside c))
     write-body-requires
-    (λ c. search needs)
-    (λ c. search needs)
+    (λ c. search needs) (λ c. search needs)
     loop-again
     (λ c. search needs)
     returns)

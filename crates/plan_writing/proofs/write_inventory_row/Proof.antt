@@ -22,7 +22,7 @@ Inv-loop out₀ row₀ slots f week products i₀ out row i =
 abbrev μ-loop : tie.MeasureT-loop
 μ-loop out₀ row₀ slots f week products i₀ out row i = products - i
 
-module _ (c : tie.After-sold-of Inv-loop μ-loop) where
+module _ (c : tie.After-sold Inv-loop μ-loop) where
   abbrev s : tie.Start Inv-loop μ-loop
   s = c .before .before .before .before .before .before .before .before
 
@@ -30,19 +30,19 @@ module _ (c : tie.After-sold-of Inv-loop μ-loop) where
   i = c .before .before .before .loop .i
 
   below : i < s .args .f .products
-  below = omega (arith, c .before .before .loop-test .taken, c .before .before .before .before .count .ensures .0)
+  below = omega (arith, c .before .before .loop-test .taken, c .before .before .before .before .as-usize .ensures .0)
 
   -- the number of product i is still the first
   number-is : getD (c .before .before .before .loop .row) i 0 ≡ getD (s .args .row .now) i 0
   number-is = c .before .before .before .loop .inv .5 i (omega arith)
 
-  left-is : getD (c .before .before .before .loop .row) i 0 - c .sold-of .result .0
+  left-is : getD (c .before .before .before .loop .row) i 0 - c .sold .result
       ≡ getD (s .args .row .now) i 0 - soldIn (s .args .f) (s .args .slots .now) (s .args .week) i
-  left-is = λ u. number-is u - c .sold-of .ensures u
+  left-is = λ u. number-is u - c .sold .ensures .0 u
 
 loop-again : tie.Need-loop-again Inv-loop μ-loop
 loop-again q =
-    let c = q .before .before .before .before .before in
+    let c = q .before .before .before .before in
     let b = c .before .before .before .loop in
     let a = s c .args in
     let left : ℕ → ℕ = λ j. getD (a .row .now) j 0 - soldIn (a .f) (a .slots .now) (a .week) j in (
@@ -59,7 +59,7 @@ returns : tie.Need-returns Inv-loop μ-loop
 returns c =
     let a = c .before .before .before .before .before .before .args in
     let b = c .before .loop in
-    let all : b .i ≡ a .f .products = omega (arith, c .loop-test .left, c .before .before .count .ensures .0) in
+    let all : b .i ≡ a .f .products = omega (arith, c .loop-test .left, c .before .before .as-usize .ensures .0) in
     (rw all at (b .inv .3), rw all at (b .inv .4))
 
 pub write-inventory-row-spec : {M : Type 1} → statement M
@@ -70,17 +70,11 @@ write-inventory-row-spec =
     μ-loop
     (λ c κs. search needs)
     (λ c. (search needs, refl, refl, refl, λ j l. absurd (omega arith), λ j l. refl))
-    (λ c. search needs)
-    (λ c. search needs)
-    (λ c κs. search needs)
-    (λ c. let d = c .before in omega (arith, number-is d, d .sold-of .ensures, s d .pre .4 (i d) (below d)))
-    (λ c. search needs)
-    (λ c. search needs)
-    (λ c. search needs)
-    (λ c κs. let d = c .before .before in omega (arith, room 4 (below d), s d .pre .3, d .before .before .before .loop .inv .1))
-    (λ c. search needs)
-    (λ c. search needs)
+    (λ c. search needs) (λ c. search needs) (λ c κs. search needs)
+    (λ c. omega (arith, number-is c, c .sold .ensures .0, s c .pre .4 (i c) (below c)))
+    (λ c. search needs) (λ c. search needs) (λ c. search needs)
+    (λ c κs. let d = c .before in omega (arith, room 4 (below d), s d .pre .3, d .before .before .before .loop .inv .1))
+    (λ c. search needs) (λ c. search needs)
     loop-again
-    (λ c. search needs)
-    (λ c. search needs)
+    (λ c. search needs) (λ c. search needs)
     returns)

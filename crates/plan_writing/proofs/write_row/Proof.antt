@@ -1,125 +1,125 @@
--- `plan_writing::write_row` meets its contract, place by place. Assumes nothing.
+-- `plan_writing::write_row` meets its contract. Assumes nothing.
 use borrow.Author.Needs.{needs}
 use native.Mathlib.Omega.{arith}
-use mathlib.Core.Path.{_≡_, sym, ap, _∙_}
-use mathlib.Core.Logic.{_≢_}
-use mathlib.Core.List.{List}
-use Prim.Native.Nat.{ℕ, _+_, _*_, _≤_, _<_}
-use lib.ListN.{length}
+use mathlib.Core.Path.{_≡_, refl, sym, ap, _∙_}
+use native.Mathlib.Decide.{ℕ-discrete}
+use Prim.Native.Nat.{ℕ, zero, suc, _*_, _≤_, _<_}
 use Rattle.numbers.specs.Number.{encode, store}
 use Rattle.numbers.proofs.Number.{encode-ext}
-use Rattle.plant_file.specs.Plant.{plantOf}
-use Rattle.plan_file.specs.Plan.{Plan}
-use Rattle.slot_file.specs.Slots.{slotsOf}
-use Rattle.model.specs.RunTables.{lineTables, runTables}
-use Rattle.plan_writing.specs.Run.{WeekOf}
-use Rattle.plan_writing.specs.Bodies.{widthIn, rowsIn, columnsIn, rowIn}
-use Rattle.plan_writing.specs.Marks.{marked}
-use Rattle.plan_writing.proofs.WeekTables.{marked-is}
-use Rattle.plan_writing.proofs.Once.{week-of}
-use Rattle.plan_writing.proofs.Bodies.{mark-width, week-rows}
+use Rattle.sections.specs.declared.Shape.{Shape}
+use Rattle.plant_file.specs.Plant.{Plant, plantOf}
+use Rattle.slot_file.specs.Slots.{Slots, slotsOf, orderOfSlots}
+use Rattle.costs.specs.declared.Mounted.{Mounted}
+use Rattle.costs.specs.Mounted.{mountedBelow}
+use Rattle.model.specs.RunTables.{lineTables, mountedAt, runTables}
+use Rattle.plan_writing.specs.Ran.{Cleared}
+use Rattle.plan_writing.specs.Bodies.{sectionOf, rowIn}
+use Rattle.plan_writing.specs.Line.{markRow, amountRow}
+use Rattle.plan_writing.proofs.RunWeeks.{mounted-known}
+use Rattle.plan_writing.proofs.Bodies.{mark-width}
 use Rattle.plan_writing.proofs.write_row.Statement.{statement}
 use Rattle.plan_writing.proofs.write_row.Tie as tie
 
+-- the rows of the run's tables: E, F, L, Z, ZF and O
+mark-row-is : (f : Shape) (P : Plant) (S : Slots) (place : ℕ) → place < 6 → (w j : ℕ)
+    → markRow (f .products) (mountedAt P S w) (orderOfSlots (S .line .week w)) place j ≡ rowIn f (runTables P S) place w j
+unfolding markRow rowIn runTables lineTables
+mark-row-is f P S zero l w j = refl
+mark-row-is f P S (suc zero) l w j = refl
+mark-row-is f P S (suc (suc zero)) l w j = refl
+mark-row-is f P S (suc (suc (suc zero))) l w j = refl
+mark-row-is f P S (suc (suc (suc (suc zero)))) l w j = refl
+mark-row-is f P S (suc (suc (suc (suc (suc zero))))) l w j = refl
+mark-row-is f P S (suc (suc (suc (suc (suc (suc place)))))) l w j = absurd (omega arith)
+
+-- T and P
+abbrev AmountRow : Shape → Plant → Slots → ℕ → Type 0
+AmountRow f P S place =
+    (sectionOf f place .width ≤ 8) × (sectionOf f place .columns ≡ f .products)
+    × ((w j : ℕ) → amountRow (P .line .rate) place (S .line .week w) j ≡ rowIn f (runTables P S) place w j)
+
+amount-row-is : (f : Shape) (P : Plant) (S : Slots) (place : ℕ) → 6 ≤ place → place < 8 → AmountRow f P S place
+unfolding sectionOf rowIn runTables lineTables
+amount-row-is f P S place l m = elim (ℕ-discrete place 6) [
+  | yes e ↦ rw e (omega arith, refl, λ w j. omega arith)
+  | no d ↦ (let e : place ≡ 7 = omega arith in rw e (omega arith, refl, λ w j. refl))
+]
+
+below-as : (N : ℕ) {a b : Mounted} → a ≡ b → mountedBelow N b → mountedBelow N a
+below-as N e h = rw e h
+
 module _ (s : tie.Start) where
-  abbrev x : Plan
-  x = runTables (plantOf (s .args .f) (s .args .plant .now)) (slotsOf (s .args .f) (s .args .slots .now))
+  abbrev f : Shape
+  f = s .args .f
 
-  -- row r of the body in place k
-  abbrev rowBytes : ℕ → List ℕ
-  rowBytes k = encode (widthIn k) (columnsIn (s .args .f) k) (rowIn (s .args .f) x k (s .args .r))
+  abbrev place : ℕ
+  place = s .args .place
 
-  -- where it is a week
-  week : s .args .place < 8 → WeekOf (s .args .f) (s .args .slots .now) (s .args .r) (s .args .first)
-  week l =
-      week-of (s .args .f) (s .args .plant .now) (s .args .slots .now) (s .pre .0) (s .args .r) (s .args .first)
-      (omega (arith, s .pre .4, week-rows (s .args .f) (s .args .place) l)) (s .pre .5 l)
+  abbrev week : ℕ
+  week = s .args .row .week
 
-  at-place : (k : ℕ) → s .args .place ≡ k
-      → (widthIn k * columnsIn (s .args .f) k ≤ length (s .args .out .now)) × (s .args .r < rowsIn (s .args .f) k)
-  at-place k e = (rw e at (s .pre .6), rw e at (s .pre .4))
+  abbrev P : Plant
+  P = plantOf f (s .args .plant .now)
 
-write-minutes-requires : tie.Need-write-minutes-requires
-unfolding widthIn columnsIn
-write-minutes-requires c κs =
-    let s = c .before .before .before .before .before in
-    (week s (omega (arith, c .before .if1 .taken)), at-place s 6 (c .before .if1 .taken) .0)
+  abbrev S : Slots
+  S = slotsOf f (s .args .slots .now)
+
+  abbrev row : ℕ → ℕ
+  row = rowIn f (runTables P S) place week
+
+  width-is : s .args .width ≡ sectionOf f place .width
+  width-is = s .pre .2
+
+  mounted-below : mountedBelow (f .products) (s .args .mounted)
+  mounted-below =
+      below-as (f .products) (s .pre .4)
+      (mounted-known f (s .args .plant .now) (s .args .slots .now) (s .pre .0) week (omega (arith, s .pre .3 .week)))
+
+  marks-cleared : place < 6 → Cleared (sectionOf f place .columns) (s .args .out .now)
+  marks-cleared l =
+      let e : s .args .width * sectionOf f place .columns ≡ sectionOf f place .columns =
+      ap (λ (x : ℕ). x * sectionOf f place .columns) (width-is ∙ mark-width f place l) ∙ omega arith in
+      rw e at (s .pre .5)
+
+  marks-are : (l : place < 6)
+      → encode 1 (sectionOf f place .columns) (markRow (f .products) (s .args .mounted) (orderOfSlots (S .line .week week)) place)
+      ≡ encode (s .args .width) (sectionOf f place .columns) row
+  marks-are l =
+      encode-ext 1 (sectionOf f place .columns) _ row (λ j m.
+      ap (λ (x : Mounted). markRow (f .products) x (orderOfSlots (S .line .week week)) place j) (s .pre .4) ∙ mark-row-is f P S place l week j)
+      ∙ ap (λ (x : ℕ). encode x (sectionOf f place .columns) row) (sym (width-is ∙ mark-width f place l))
+
+  amounts-are : (l : 6 ≤ place) → AmountRow f P S place
+  amounts-are l = amount-row-is f P S place l (s .pre .1)
 
 returns : tie.Need-returns
-unfolding widthIn columnsIn rowIn runTables lineTables
 returns c =
     let s = c .before .before .before .before .before .before .before .before in
-    c .before .before .write-minutes .ensures ∙ ap (store (s .args .out .now) 0) (ap (rowBytes s) (sym (c .before .before .before .before .if1 .taken)))
+    c .before .before .write-marks .ensures ∙ ap (store (s .args .out .now) 0) (marks-are s (c .before .before .before .before .if1 .taken))
 
-write-production-requires : tie.Need-write-production-requires
-unfolding widthIn columnsIn
-write-production-requires c κs =
-    let s = c .before .before .before .before .before .before in
-    (s .pre .0 .plant-good, week s (omega (arith, c .before .if2 .taken)), at-place s 7 (c .before .if2 .taken) .0)
+write-amounts-requires : tie.Need-write-amounts-requires
+write-amounts-requires c κs =
+    let s = c .before .before .before .before .before in
+    let a = amounts-are s (omega (arith, c .before .if1 .left)) in
+    (s .pre .0 .plant-good, s .pre .3, omega (arith, width-is s, a .0), rw (a .1) at (s .pre .5))
 
 returns-2 : tie.Need-returns-2
-unfolding widthIn columnsIn rowIn runTables lineTables
 returns-2 c =
-    let s = c .before .before .before .before .before .before .before .before .before in
-    c .before .before .write-production .ensures ∙ ap (store (s .args .out .now) 0) (ap (rowBytes s) (sym (c .before .before .before .before .if2 .taken)))
-
-write-backlog-requires : tie.Need-write-backlog-requires
-unfolding widthIn rowsIn columnsIn
-write-backlog-requires c κs =
-    let s = c .before .before .before .before .before .before .before in
-    let here = at-place s 10 (c .before .if3 .taken) in
-    (s .pre .0, here .1, here .0)
-
-returns-3 : tie.Need-returns-3
-unfolding widthIn columnsIn rowIn
-returns-3 c =
-    let s = c .before .before .before .before .before .before .before .before .before .before in
-    c .before .before .write-backlog .ensures ∙ ap (store (s .args .out .now) 0) (ap (rowBytes s) (sym (c .before .before .before .before .if3 .taken)))
-
--- the places that are left: E, F, L, Z, ZF and O
-module _ (c : tie.Else3) where
-  abbrev start : tie.Start
-  start = c .before .before .before .before .before .before
-
-  lower : start .args .place < 6
-  lower = below (start .args .place) (start .pre .1) (c .before .before .if1 .left) (c .before .if2 .left) (start .pre .2) (start .pre .3) (c .if3 .left)
-    where
-      below : (k : ℕ) → k < 11 → k ≢ 6 → k ≢ 7 → k ≢ 8 → k ≢ 9 → k ≢ 10 → k < 6
-      below k l a b d e g = less (less (less (less (less l g) e) d) b) a
-        where
-          less : {n p : ℕ} → p < n + 1 → p ≢ n → p < n
-          less l d = omega arith
-
-write-marks-requires : tie.Need-write-marks-requires
-write-marks-requires c κs =
-    let s = start (c .before) in
-    let one = ap (λ (w : ℕ). w * columnsIn (s .args .f) (s .args .place)) (mark-width (s .args .place) (lower (c .before))) in
-    (week s (omega (arith, lower (c .before))), lower (c .before), omega (arith, one, s .pre .6))
-
-returns-4 : tie.Need-returns-4
-returns-4 c =
-    let s = start (c .before .before .before .before) in
-    let a = s .args in
-    let l = lower (c .before .before .before .before) in
-    c .before .before .write-marks .ensures
-    ∙ ap (store (a .out .now) 0)
-    (encode-ext 1 (columnsIn (a .f) (a .place)) (marked (a .slots .now) (a .f .products) (a .r) (a .place)) (rowIn (a .f) (x s) (a .place) (a .r))
-    (λ j m. marked-is (a .f) (a .plant .now) (a .slots .now) (s .pre .0 .slots-good) (a .place) l (a .r) (week s (omega (arith, l)) .below) j)
-    ∙ ap (λ (w : ℕ). encode w (columnsIn (a .f) (a .place)) (rowIn (a .f) (x s) (a .place) (a .r))) (sym (mark-width (a .place) l)))
+    let s = c .before .before .before .before .before .before .before .before in
+    let a = amounts-are s (omega (arith, c .before .before .before .before .if1 .left)) in
+    c .before .before .write-amounts .ensures
+    ∙ ap (store (s .args .out .now) 0)
+    (encode-ext (s .args .width) (f s .products) _ (row s) (λ j l. a .2 (week s) j)
+    ∙ ap (λ (x : ℕ). encode (s .args .width) x (row s)) (sym (a .1)))
 
 pub write-row-spec : {M : Type 1} → statement M
 write-row-spec =
     tie.close
     (tie.spec
-    write-minutes-requires
+    (λ c κs. let s = c .before .before .before .before .before in
+    (s .pre .3, mounted-below s, c .before .if1 .taken, marks-cleared s (c .before .if1 .taken)))
     (λ c. search needs)
     returns
-    write-production-requires
+    write-amounts-requires
     (λ c. search needs)
-    returns-2
-    write-backlog-requires
-    (λ c. search needs)
-    returns-3
-    write-marks-requires
-    (λ c. search needs)
-    returns-4)
+    returns-2)

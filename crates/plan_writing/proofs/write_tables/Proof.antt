@@ -1,17 +1,16 @@
 -- `plan_writing::write_tables` meets its contract. Assumes nothing.
 use borrow.Author.Needs.{needs}
 use native.Mathlib.Omega.{arith}
-use mathlib.Core.Path.{_≡_, sym, ap, _∙_}
+use mathlib.Core.Path.{_≡_, sym, _∙_}
 use mathlib.Core.List.{List}
-use Prim.Native.Nat.{ℕ, _≤_}
+use Prim.Native.Nat.{ℕ}
 use lib.ListN.{length}
 use Rattle.plant_file.specs.Plant.{plantOf}
 use Rattle.plan_file.specs.File.{planFile}
 use Rattle.plan_file.proofs.FileIsPlan.{file-length}
 use Rattle.slot_file.specs.Slots.{slotsOf}
 use Rattle.model.specs.RunTables.{runTables}
-use Rattle.calls.specs.declared.Written.the-variants.{Length}
-use Rattle.calls.proofs.Output.{too-short, long-enough, stored}
+use Rattle.calls.proofs.Output.{short-as, written-as}
 use Rattle.plan_writing.proofs.write_tables.Statement.{statement}
 use Rattle.plan_writing.proofs.write_tables.Tie as tie
 
@@ -30,18 +29,12 @@ abbrev out : tie.After-plan-length → List ℕ
 out c = c .before .before .before .before .args .out .now
 
 returns : tie.Need-returns
-returns c =
-    let d = c .before .before .before .before .before in
-    let e = too-short (file d) (out d) (omega (arith, size d)) in
-    let r = c .before .before .refuse .ensures in
-    (r .0 ∙ sym (e .0), r .1 ∙ sym (e .1))
+returns c = let d = c .before .before .before .before .before in short-as (file d) (out d) (omega (arith, size d)) (c .before .before .refuse .ensures)
 
 returns-2 : tie.Need-returns-2
 returns-2 c =
     let d = c .before .before .before .before .before in
-    let long : length (file d) ≤ length (out d) = omega (arith, size d) in
-    let r = c .before .before .write-plan .ensures in
-    (r .0 ∙ (ap Length (sym (d .plan-length .ensures .0) ∙ size d) ∙ sym (long-enough (file d) (out d) long .0)), r .1 ∙ sym (stored (file d) (out d) long))
+    written-as (file d) (out d) (sym (d .plan-length .ensures .0) ∙ size d) (omega (arith, size d)) (c .before .before .write-plan .ensures)
 
 pub write-tables-spec : {M : Type 1} → statement M
 write-tables-spec =

@@ -12,5 +12,4 @@ print-report-spec =
     (λ c κs. search needs)
     (λ c. c .report-text .ensures .0)
     (λ c. sym (length-take-le _ _ (c .before .report-text .ensures .0)))
-    (λ c κs. search needs)
-    (λ c. search needs))
+    (λ c κs. search needs) (λ c. search needs))

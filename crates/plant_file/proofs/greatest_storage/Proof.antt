@@ -18,7 +18,6 @@ pub greatest-storage-spec : {M : Type 1} → statement M
 greatest-storage-spec =
     tie.close
     (tie.spec
-    (λ c. search needs)
-    (λ c. search needs)
+    (λ c. search needs) (λ c. search needs)
     (λ c κs. held4 (c .before .pre .0) 8 (search needs) {m = 2 * c .before .args .f .products} (omega arith) (omega arith))
     returns)

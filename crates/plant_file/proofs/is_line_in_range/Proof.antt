@@ -15,7 +15,7 @@ in-range-requires-2 c κs = laid-holds (c .before .before .before .before .pre) 
 diagonal-zero-requires : tie.Need-diagonal-zero-requires
 diagonal-zero-requires c κs =
     let z = c .before .before .before .before .before .pre in
-    (rw (c .before .before .before .count .ensures .0) (laid-holds z 2 (search needs) 2 _ width2 (omega arith)), search needs)
+    (rw (c .before .before .before .as-usize .ensures .0) (laid-holds z 2 (search needs) 2 _ width2 (omega arith)), search needs)
 
 in-range-requires-3 : tie.Need-in-range-requires-3
 in-range-requires-3 c κs = laid-holds (c .before .before .before .before .before .before .pre) 3 (search needs) 4 _ width4 (omega arith)
@@ -23,7 +23,7 @@ in-range-requires-3 c κs = laid-holds (c .before .before .before .before .befor
 diagonal-zero-requires-2 : tie.Need-diagonal-zero-requires-2
 diagonal-zero-requires-2 c κs =
     let z = c .before .before .before .before .before .before .before .pre in
-    (rw (c .before .before .before .before .before .count .ensures .0) (laid-holds z 3 (search needs) 4 _ width4 (omega arith)), search needs)
+    (rw (c .before .before .before .before .before .as-usize .ensures .0) (laid-holds z 3 (search needs) 4 _ width4 (omega arith)), search needs)
 
 returns : tie.Need-returns
 unfolding lineInRange
@@ -33,15 +33,11 @@ pub is-line-in-range-spec : {M : Type 1} → statement M
 is-line-in-range-spec =
     tie.close
     (tie.spec
-    (λ c κs. search needs)
-    (λ c κs. search needs)
+    (λ c κs. search needs) (λ c κs. search needs)
     in-range-requires
     in-range-requires-2
     diagonal-zero-requires
     in-range-requires-3
     diagonal-zero-requires-2
-    (λ c κs. search needs)
-    (λ c κs. search needs)
-    (λ c κs. search needs)
-    (λ c κs. search needs)
+    (λ c κs. search needs) (λ c κs. search needs) (λ c κs. search needs) (λ c κs. search needs)
     returns)

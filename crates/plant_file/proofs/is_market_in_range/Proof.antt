@@ -26,14 +26,10 @@ pub is-market-in-range-spec : {M : Type 1} → statement M
 is-market-in-range-spec =
     tie.close
     (tie.spec
-    (λ c κs. search needs)
-    (λ c κs. search needs)
-    (λ c κs. search needs)
+    (λ c κs. search needs) (λ c κs. search needs) (λ c κs. search needs)
     in-range-requires
     in-range-requires-2
     in-range-requires-3
     in-range-requires-4
-    (λ c κs. search needs)
-    (λ c κs. search needs)
-    (λ c κs. search needs)
+    (λ c κs. search needs) (λ c κs. search needs) (λ c κs. search needs)
     returns)

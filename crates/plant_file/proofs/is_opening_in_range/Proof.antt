@@ -20,8 +20,7 @@ pub is-opening-in-range-spec : {M : Type 1} → statement M
 is-opening-in-range-spec =
     tie.close
     (tie.spec
-    (λ c κs. search needs)
-    (λ c κs. search needs)
+    (λ c κs. search needs) (λ c κs. search needs)
     in-range-requires
     in-range-requires-2
     (λ c κs. search needs)

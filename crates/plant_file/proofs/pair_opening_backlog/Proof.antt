@@ -5,13 +5,13 @@ use borrow.Author.Needs.{needs}
 use native.Mathlib.Omega.{arith}
 use Rattle.contents.specs.Contents.{Inside}
 use Rattle.plant_file.specs.Plant.{openingBacklogIn}
-use Rattle.plant_file.proofs.Pairs.{pair-of}
+use Rattle.mathematics.proofs.Pairs.{pair-of}
 use Rattle.plant_file.proofs.PlantInRange.{plant-ranges}
 use Rattle.plant_file.proofs.PlantAccess.{held4, answer}
 use Rattle.plant_file.proofs.pair_opening_backlog.Statement.{statement}
 use Rattle.plant_file.proofs.pair_opening_backlog.Tie as tie
 
-inside : (c : tie.After-count) → Inside (c .before .before .args .s .now) 9 4 (c .count .result + c .before .before .args .pair)
+inside : (c : tie.After-as-usize) → Inside (c .before .before .args .s .now) 9 4 (c .as-usize .result + c .before .before .args .pair)
 inside c =
     let f = c .before .before .args .f in
     held4 (c .before .before .pre .0) 9 (search needs) {m = f .products + f .customers * f .products} (omega arith) (omega arith)
@@ -20,7 +20,7 @@ returns : tie.Need-returns
 unfolding openingBacklogIn
 returns c =
     let p = pair-of _ _ _ (c .before .before .before .pre .1) in
-    answer (c .cell-in .ensures ∙ rw (c .before .count .ensures .0, p .number))
+    answer (c .cell-in .ensures ∙ rw (c .before .as-usize .ensures .0, p .number))
     (plant-ranges _ _ (c .before .before .before .pre .0) .opening-backlog-most _ _ (p .row) (p .column))
 
 pub pair-opening-backlog-spec : {M : Type 1} → statement M

@@ -4,7 +4,9 @@ use borrow.Author.Tests.{not-true, not-false}
 use mathlib.Core.Path.{_≡_, sym, _∙_}
 use mathlib.Core.Bool.{true}
 use Rattle.contents.specs.Contents.{headed, sized}
-use Rattle.plant_file.specs.Form.{laidOut, inLimits, plantLengths, plantForm}
+use Rattle.sections.specs.Rows.{row}
+use Rattle.sections.specs.declared.Form.the-variants.{Good}
+use Rattle.plant_file.specs.Form.{laidOut, inLimits, plantLengths, plantInRange, plantForm}
 use Rattle.plant_file.proofs.PlantReads.{plant-long, shape-holds, plant-laid}
 use Rattle.plant_file.proofs.plant_form.Statement.{statement}
 use Rattle.plant_file.proofs.plant_form.Tie as tie
@@ -50,31 +52,19 @@ returns-4 c =
       sym (c .before .has-lengths .ensures) ∙ not-true _ (c .if4 .taken),
     )
 
-returns-5 : tie.Need-returns-5
+-- rows 1 to 4 passed
+only-row5 : (c : tie.Else4) → let k = c .before .before .before .before in let s = k .before .before .before .before .before .before .args .s .now in
+    plantForm s ≡ row 5 (plantInRange s (k .shape-of .result)) (Good (k .shape-of .result))
 unfolding plantForm
-returns-5 c =
-    let k = c .before .before .before .before .before .before in
-    rw (
-      row1 (k .before .before .before),
-      row2 (k .before),
-      ← (k .shape-of .ensures),
-      row3 (c .before .before .before .before),
-      row4 (c .before .before),
-      sym (c .before .is-in-range .ensures) ∙ not-true _ (c .if5 .taken),
-    )
+only-row5 c =
+    let k = c .before .before .before .before in
+    rw (row1 (k .before .before .before), row2 (k .before), ← (k .shape-of .ensures), row3 (c .before .before), row4 c)
+
+returns-5 : tie.Need-returns-5
+returns-5 c = rw (only-row5 (c .before .before), sym (c .before .is-in-range .ensures) ∙ not-true _ (c .if5 .taken))
 
 returns-6 : tie.Need-returns-6
-unfolding plantForm
-returns-6 c =
-    let k = c .before .before .before .before .before .before in
-    rw (
-      row1 (k .before .before .before),
-      row2 (k .before),
-      ← (k .shape-of .ensures),
-      row3 (c .before .before .before .before),
-      row4 (c .before .before),
-      sym (c .before .is-in-range .ensures) ∙ not-false _ (c .if5 .left),
-    )
+returns-6 c = rw (only-row5 (c .before .before), sym (c .before .is-in-range .ensures) ∙ not-false _ (c .if5 .left))
 
 pub plant-form-spec : {M : Type 1} → statement M
 plant-form-spec =

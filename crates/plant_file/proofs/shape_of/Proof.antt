@@ -29,9 +29,7 @@ pub shape-of-spec : {M : Type 1} → statement M
 shape-of-spec =
     tie.close
     (tie.spec
-    (λ c κs. search needs)
-    (λ c. search needs)
-    (λ c. search needs)
+    (λ c κs. search needs) (λ c. search needs) (λ c. search needs)
     (λ c. omega (arith, starts (c .before), c .before .before .before .pre .fits))
     (λ c. omega (arith, starts (c .before .before), c .before .before .before .before .pre .fits))
     (λ c. omega (arith, starts (c .before .before .before), c .before .before .before .before .before .pre .fits))

@@ -42,10 +42,7 @@ write-bytes-spec =
     Inv-loop
     μ-loop
     (λ c. (search needs, omega arith, refl, stored-none (c .before .before .args .out .now) (c .before .before .args .at)))
-    (λ c. search needs)
-    (λ c κs. search needs)
-    (λ c. search needs)
-    (λ c. search needs)
+    (λ c. search needs) (λ c κs. search needs) (λ c. search needs) (λ c. search needs)
     loop-again
     (λ c. search needs)
     returns)

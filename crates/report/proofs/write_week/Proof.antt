@@ -5,10 +5,10 @@ use mathlib.Core.Path.{_≡_, refl, ap, _∙_}
 use mathlib.Core.List.{List, [], _∷_, _++_}
 use Prim.Native.Nat.{ℕ, _+_, _*_, _-_, _<_, _≤_}
 use lib.ListN.{length, length-append}
-use Rattle.machine.specs.declared.Mounted.the-variants.{Product}
-use Rattle.machine.specs.Bounds.{mountedBelow}
+use Rattle.costs.specs.declared.Mounted.the-variants.{Product}
+use Rattle.costs.specs.Mounted.{mountedBelow}
 use Rattle.report.specs.Text.{line}
-use Rattle.report.specs.Shown.{weekText}
+use Rattle.report.specs.Weeks.{weekText}
 use Rattle.report.proofs.StoredText.{Rest, rest-start, rest-step, rest-end}
 use Rattle.report.proofs.WeekText.{few, linesFrom, lines-all, lines-next, lines-end}
 use Rattle.report.proofs.write_week.Statement.{statement}
@@ -25,7 +25,7 @@ abbrev μ-loop : tie.MeasureT-loop
 loop-holds : tie.Need-loop-holds Inv-loop μ-loop
 loop-holds c =
     let a = c .before .before .before .before .before .args in
-    let m = c .mounted-before .ensures in
+    let m = c .mounted-product .ensures in
     let all = lines-all (a .f) (a .plant .now) (a .plan .now) (a .week) in
     (omega arith, m .1, omega arith, refl, rest-start (a .out .now) (a .at) (rw (m .0) all))
 
@@ -112,19 +112,16 @@ write-week-spec =
     (tie.spec
     Inv-loop
     μ-loop
-    (λ c κs. search needs)
-    (λ c κs. search needs)
+    (λ c κs. search needs) (λ c κs. search needs)
     loop-holds
     (λ c κs. search needs)
     (λ c κs. (search needs, search needs, known c))
     (λ c κs. (search needs, c .before .before .before .loop .inv .1, known (c .before)))
-    (λ c. search needs)
-    (λ c. search needs)
+    (λ c. search needs) (λ c. search needs)
     week-number
     write-line-requires
     product-number
-    (λ c. search needs)
-    (λ c. search needs)
+    (λ c. search needs) (λ c. search needs)
     loop-again
     (λ c. search needs)
     returns)

@@ -7,7 +7,7 @@ use Prim.Native.Nat.{_+_, _-_, _≤_}
 use lib.ListN.{length}
 use Rattle.mathematics.specs.Below.{joinBelow}
 use Rattle.report.specs.Stored.{Stored}
-use Rattle.report.specs.Shown.{weekText}
+use Rattle.report.specs.Weeks.{weekText}
 use Rattle.report.proofs.StoredText.{stored-none, stored-both}
 use Rattle.report.proofs.WeekText.{join-room}
 use Rattle.report.proofs.write_weeks.Statement.{statement}
@@ -46,8 +46,7 @@ write-weeks-spec =
     (λ c κs. search needs)
     (λ c. (omega arith, refl, stored-none (c .before .before .before .before .args .out .now) (c .before .before .before .before .args .at)))
     (λ c κs. (search needs, search needs, room (c .before)))
-    (λ c. search needs)
-    (λ c. search needs)
+    (λ c. search needs) (λ c. search needs)
     loop-again
     (λ c. search needs)
     returns)

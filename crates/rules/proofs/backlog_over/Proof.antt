@@ -3,7 +3,7 @@ use borrow.Author.Needs.{needs}
 use native.Mathlib.Numerals.{add-one}
 use native.Mathlib.Omega.{arith}
 use mathlib.Core.Path.{_≡_, refl}
-use Prim.Native.Nat.{_≤_, _<_, _-_, _^_}
+use Prim.Native.Nat.{_/_, _%_, _^_, _≤_, _<_, _-_}
 use Rattle.mathematics.specs.Below.{allBelow}
 use Rattle.plant_file.specs.Plant.{plantOf}
 use Rattle.plan_file.specs.Plan.{planOf}
@@ -12,18 +12,18 @@ use Rattle.rules.proofs.backlog_over.Statement.{statement}
 use Rattle.rules.proofs.backlog_over.Tie as tie
 
 abbrev Inv-loop : tie.InvT-loop
-Inv-loop plant plan f customer product weeks before₀ ok₀ week₀ before ok week =
+Inv-loop plant plan f pair weeks before₀ ok₀ week₀ before ok week =
     (week ≤ weeks)
-    × (ok ≡ allBelow week (backlogAt (plantOf f plant) (planOf f plan) customer product))
-    × (before ≡ backlogBefore (plantOf f plant) (planOf f plan) week customer product)
+    × (ok ≡ allBelow week (backlogAt (plantOf f plant) (planOf f plan) (pair / f .products) (pair % f .products)))
+    × (before ≡ backlogBefore (plantOf f plant) (planOf f plan) week (pair / f .products) (pair % f .products))
     × (before < 2 ^ 32)
 
 abbrev μ-loop : tie.MeasureT-loop
-μ-loop plant plan f customer product weeks before₀ ok₀ week₀ before ok week = weeks - week
+μ-loop plant plan f pair weeks before₀ ok₀ week₀ before ok week = weeks - week
 
 loop-holds : tie.Need-loop-holds Inv-loop μ-loop
 unfolding backlogBefore
-loop-holds c = (search needs, refl, c .opening-backlog .ensures .0, omega arith)
+loop-holds c = (search needs, refl, c .pair-opening-backlog .ensures .0, omega arith)
 
 loop-again : tie.Need-loop-again Inv-loop μ-loop
 unfolding backlogBefore

@@ -6,7 +6,7 @@ use mathlib.Core.Path.{_≡_}
 use Prim.Native.Nat.{_≤_, _-_}
 use Rattle.mathematics.specs.Below.{allBelow}
 use Rattle.plan_file.specs.Plan.{planOf}
-use Rattle.rules.specs.Places.{followsAt}
+use Rattle.rules.specs.Products.{followsAt}
 use Rattle.rules.proofs.follows_from.Statement.{statement}
 use Rattle.rules.proofs.follows_from.Tie as tie
 

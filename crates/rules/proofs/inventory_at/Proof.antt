@@ -1,6 +1,5 @@
 -- `rules::inventory_at` meets its contract. Assumes nothing.
 use borrow.Author.Needs.{needs}
-use Rattle.rules.specs.Rules.{inventoryAt}
 use Rattle.rules.proofs.inventory_at.Statement.{statement}
 use Rattle.rules.proofs.inventory_at.Tie as tie
 

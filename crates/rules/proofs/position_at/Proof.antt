@@ -2,7 +2,7 @@
 use borrow.Author.Needs.{needs}
 use borrow.Author.Tests.{eq-eqb, ne-eqb}
 use mathlib.Core.Path.{sym, _∙_}
-use Rattle.rules.specs.Places.{positionAt}
+use Rattle.rules.specs.Products.{positionAt}
 use Rattle.rules.proofs.position_at.Statement.{statement}
 use Rattle.rules.proofs.position_at.Tie as tie
 

@@ -7,13 +7,15 @@ use mathlib.Core.Bool.{_&&_}
 use Prim.Native.Nat.{_≤_, _-_}
 use Rattle.mathematics.specs.Below.{allBelow}
 use Rattle.plan_file.specs.Plan.{planOf}
-use Rattle.rules.specs.Places.{positionAt, followsAt}
-use Rattle.rules.proofs.PlaceRules.{positions-week}
+use Rattle.rules.specs.Products.{positionAt, followsAt}
+use Rattle.rules.proofs.ProductRules.{positions-week}
 use Rattle.rules.proofs.positions_in.Statement.{statement}
 use Rattle.rules.proofs.positions_in.Tie as tie
 
 abbrev Inv-loop : tie.InvT-loop
-Inv-loop plan f week n made ok₀ i₀ ok i = (i ≤ n) × (ok ≡ allBelow i (λ p. positionAt made (planOf f plan .line) week p && allBelow (f .products) (followsAt (planOf f plan .line) week p)))
+Inv-loop plan f week n made ok₀ i₀ ok i =
+    let x = planOf f plan .line in
+    (i ≤ n) × (ok ≡ allBelow i (λ p. positionAt made x week p && allBelow (f .products) (followsAt x week p)))
 
 abbrev μ-loop : tie.MeasureT-loop
 μ-loop plan f week n made ok₀ i₀ ok i = n - i
@@ -26,5 +28,6 @@ returns c =
 pub positions-in-spec : {M : Type 1} → statement M
 positions-in-spec =
     tie.close
-    (tie.spec Inv-loop μ-loop (λ c κs. search needs) (λ c κs. search needs) (λ c. search needs) (λ c κs. search needs) (λ c κs. search needs) (λ c κs. search needs) (λ c κs. search needs)
-    (λ c. search needs) (λ c. search needs) (λ c. (search needs, rw add-one (cc))) returns)
+    (tie.spec Inv-loop μ-loop (λ c κs. search needs) (λ c κs. search needs) (λ c. search needs) (λ c κs. search needs)
+    (λ c κs. search needs) (λ c κs. search needs) (λ c κs. search needs) (λ c. search needs) (λ c. search needs)
+    (λ c. (search needs, rw add-one (cc))) returns)

@@ -3,11 +3,12 @@ use borrow.Author.Needs.{needs}
 use native.Mathlib.Nat.{mul-le-mul}
 use native.Mathlib.Omega.{arith}
 use Prim.Native.Nat.{ℕ, _*_, _≤_, _<_}
+use Rattle.sections.specs.Limits.{mostWeekMinutes}
 use Rattle.rules.proofs.run_at.Statement.{statement}
 use Rattle.rules.proofs.run_at.Tie as tie
 
 -- a week's minutes, or none
-times-bit : {a b : ℕ} → a ≤ 10080 → b < 2 → a * b ≤ 10080
+times-bit : {a b : ℕ} → a ≤ mostWeekMinutes → b < 2 → a * b ≤ mostWeekMinutes
 times-bit {a} {b} h k = mul-le-mul {m₂ = 1} h (omega arith)
 
 pub run-at-spec : {M : Type 1} → statement M

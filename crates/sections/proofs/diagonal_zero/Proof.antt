@@ -4,7 +4,7 @@ use native.Mathlib.Omega.{arith}
 use native.Mathlib.Numerals.{add-one}
 use mathlib.Core.Path.{_≡_, ap}
 use native.Mathlib.Nat.{mul-le-mul}
-use Prim.Native.Nat.{ℕ, _≤_, _<_, _-_, _+_, _*_}
+use Prim.Native.Nat.{_≤_, _<_, _-_, _+_, _*_}
 use lib.Dec.{eqb}
 use Rattle.mathematics.specs.Below.{allBelow}
 use Rattle.mathematics.proofs.Join.{table-below}
@@ -58,15 +58,12 @@ diagonal-zero-spec =
     (tie.spec
     Inv-loop
     μ-loop
-    (λ c κs. search needs)
-    (λ c. search needs)
+    (λ c κs. search needs) (λ c. search needs)
     (λ c. omega (arith, small c))
     (λ c. omega (arith, small c))
     (λ c. omega (arith, inside c .within))
     (λ c. omega (arith, inside c .within, starts c))
     (λ c κs. (inside c .width, omega (arith, inside c .within, starts c)))
-    (λ c κs. search needs)
-    (λ c. search needs)
-    (λ c. search needs)
+    (λ c κs. search needs) (λ c. search needs) (λ c. search needs)
     loop-again
     returns)

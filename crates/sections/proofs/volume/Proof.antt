@@ -7,10 +7,10 @@ use Rattle.sections.proofs.volume.Statement.{statement}
 use Rattle.sections.proofs.volume.Tie as tie
 
 mul-result : tie.Need-mul-result
-mul-result c = omega (arith, mul-le-mul (c .before .area .ensures .1) (byte-most (c .count .ensures .1)))
+mul-result c = omega (arith, mul-le-mul (c .before .area .ensures .1) (byte-most (c .as-usize .ensures .1)))
 
 returns : tie.Need-returns
-returns c = (cc, mul-le-mul (c .before .area .ensures .1) (byte-most (c .count .ensures .1)))
+returns c = (cc, mul-le-mul (c .before .area .ensures .1) (byte-most (c .as-usize .ensures .1)))
 
 pub volume-spec : {M : Type 1} → statement M
 volume-spec = tie.close (tie.spec (λ c κs. search needs) (λ c κs. search needs) mul-result returns)

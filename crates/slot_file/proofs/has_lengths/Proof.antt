@@ -28,19 +28,16 @@ returns-2 : tie.Need-returns-2
 returns-2 c =
     let lengths = c .before .before .lengths-of .ensures .0 in
     let total = c .before .before .before .slots-before .ensures .0 in
-    let weeks = c .before .before .before .before .count .ensures .0 in
+    let weeks = c .before .before .before .before .as-usize .ensures .0 in
     c .is-sized .ensures ∙ ap (sized _) (lengths ∙ ap (slotLengths _) (total ∙ ap (slotsBefore _) weeks))
 
 pub has-lengths-spec : {M : Type 1} → statement M
 has-lengths-spec =
     tie.close
     (tie.spec
-    (λ c κs. search needs)
-    (λ c κs. search needs)
+    (λ c κs. search needs) (λ c κs. search needs)
     returns
     (λ c κs. search needs)
     slots-before-requires
-    (λ c κs. search needs)
-    (λ c. search needs)
-    (λ c κs. search needs)
+    (λ c κs. search needs) (λ c. search needs) (λ c κs. search needs)
     returns-2)

@@ -14,6 +14,5 @@ slot-minutes-spec =
     tie.close
     (tie.spec
     (λ c κs. slot-inside _ _ (c .before .pre .0) _ (c .before .pre .1))
-    (λ c. search needs)
-    (λ c κs. search needs)
+    (λ c. search needs) (λ c κs. search needs)
     returns)

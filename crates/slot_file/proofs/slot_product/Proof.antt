@@ -12,7 +12,7 @@ returns c =
     let a = c .before .before .before .before .args in
     let s = a .s .now in
     let pre = c .before .before .before .before .pre in
-    let e : c .count .result ≡ slotAt s (a .j) .product = c .count .ensures .0 ∙ product-at s (a .j) _ (c .before .before .slot-place .ensures .0) in
+    let e : c .as-usize .result ≡ slotAt s (a .j) .product = c .as-usize .ensures .0 ∙ product-at s (a .j) _ (c .before .before .slot-place .ensures .0) in
     (e, rw e (slot-good (a .f) _ s (pre .0) .product (a .j) (pre .1)))
 
 pub slot-product-spec : {M : Type 1} → statement M
@@ -20,6 +20,5 @@ slot-product-spec =
     tie.close
     (tie.spec
     (λ c κs. slot-inside _ _ (c .before .pre .0) _ (c .before .pre .1))
-    (λ c. search needs)
-    (λ c κs. search needs)
+    (λ c. search needs) (λ c κs. search needs)
     returns)

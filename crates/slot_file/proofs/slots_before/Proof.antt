@@ -28,7 +28,7 @@ loop-again c =
     let b = c .before .before .before .loop in
     let s = c .before .before .before .before .before .before .args .s .now in
     let e : b .p ≡ offset s 0 + 1 * b .i = omega arith in
-    let r = c .count .ensures .0 in
+    let r = c .as-usize .ensures .0 in
     (search needs, search needs, rw (add-one, ← e) (omega (arith, b .inv .2)), omega arith)
 
 returns : tie.Need-returns Inv-loop μ-loop
@@ -43,10 +43,8 @@ slots-before-spec =
     (λ c κs. search needs)
     loop-holds
     (λ c. omega (arith, c .before .before .before .before .before .pre .0 .fits))
-    (λ c κs. search needs)
-    (λ c. search needs)
+    (λ c κs. search needs) (λ c. search needs)
     (λ c. omega (arith, c .before .before .before .before .before .before .pre .0 .fits))
-    (λ c. search needs)
-    (λ c. search needs)
+    (λ c. search needs) (λ c. search needs)
     loop-again
     returns)

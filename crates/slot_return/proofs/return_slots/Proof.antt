@@ -1,14 +1,13 @@
 -- `slot_return::return_slots` meets its contract. Assumes nothing.
 use borrow.Author.Needs.{needs}
 use native.Mathlib.Omega.{arith}
-use mathlib.Core.Path.{_≡_, sym, ap, _∙_}
+use mathlib.Core.Path.{_≡_, sym, _∙_}
 use mathlib.Core.List.{List}
-use Prim.Native.Nat.{ℕ, _≤_}
+use Prim.Native.Nat.{ℕ}
 use lib.ListN.{length}
 use Rattle.slot_file.specs.File.{slotFile}
-use Rattle.calls.specs.declared.Written.the-variants.{Length}
-use Rattle.calls.proofs.Output.{too-short, long-enough, stored}
-use Rattle.slot_return.specs.Shown.{shownIn}
+use Rattle.calls.proofs.Output.{short-as, written-as}
+use Rattle.passed_plan.specs.Shown.{shownIn}
 use Rattle.slot_return.proofs.ShownFile.{file-length}
 use Rattle.slot_return.proofs.return_slots.Statement.{statement}
 use Rattle.slot_return.proofs.return_slots.Tie as tie
@@ -26,28 +25,18 @@ abbrev out : tie.After-slot-length → List ℕ
 out c = c .before .before .before .before .args .out .now
 
 returns : tie.Need-returns
-returns c =
-    let d = c .before .before .before .before .before in
-    let e = too-short (file d) (out d) (omega (arith, size d)) in
-    let r = c .before .before .refuse .ensures in
-    (r .0 ∙ sym (e .0), r .1 ∙ sym (e .1))
+returns c = let d = c .before .before .before .before .before in short-as (file d) (out d) (omega (arith, size d)) (c .before .before .refuse .ensures)
 
 returns-2 : tie.Need-returns-2
 returns-2 c =
     let d = c .before .before .before .before .before in
-    let long : length (file d) ≤ length (out d) = omega (arith, size d) in
-    let r = c .before .before .write-slots .ensures in
-    (r .0 ∙ (ap Length (size d) ∙ sym (long-enough (file d) (out d) long .0)), r .1 ∙ sym (stored (file d) (out d) long))
+    written-as (file d) (out d) (size d) (omega (arith, size d)) (c .before .before .write-slots .ensures)
 
 pub return-slots-spec : {M : Type 1} → statement M
 return-slots-spec =
     tie.close
     (tie.spec
-    (λ c κs. search needs)
-    (λ c κs. search needs)
-    (λ c κs. search needs)
-    (λ c. search needs)
+    (λ c κs. search needs) (λ c κs. search needs) (λ c κs. search needs) (λ c. search needs)
     returns
-    (λ c κs. search needs)
-    (λ c. search needs)
+    (λ c κs. search needs) (λ c. search needs)
     returns-2)

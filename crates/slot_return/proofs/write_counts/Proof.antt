@@ -7,7 +7,7 @@ use lib.ListN.{length}
 use Rattle.numbers.specs.Number.{digits, encode, store}
 use Rattle.numbers.proofs.Number.{encode-length}
 use Rattle.numbers.proofs.Store.{store-join}
-use Rattle.slot_return.specs.Shown.{weekCount}
+use Rattle.passed_plan.specs.Shown.{weekCount}
 use Rattle.slot_return.proofs.ShownFile.{counts-body}
 use Rattle.slot_return.proofs.write_counts.Statement.{statement}
 use Rattle.slot_return.proofs.write_counts.Tie as tie
@@ -45,10 +45,7 @@ write-counts-spec =
     μ-loop
     (λ c κs. search needs)
     (λ c. (search needs, refl, refl))
-    (λ c κs. search needs)
-    (λ c κs. search needs)
-    (λ c. search needs)
-    (λ c. search needs)
+    (λ c κs. search needs) (λ c κs. search needs) (λ c. search needs) (λ c. search needs)
     loop-again
     (λ c. search needs)
     returns)

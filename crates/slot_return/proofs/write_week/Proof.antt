@@ -8,7 +8,7 @@ use lib.ListN.{length}
 use Rattle.mathematics.specs.Below.{joinBelow}
 use Rattle.numbers.specs.Number.{store}
 use Rattle.numbers.proofs.Store.{store-join, part-store}
-use Rattle.slot_return.specs.Shown.{weekCount}
+use Rattle.passed_plan.specs.Shown.{weekCount}
 use Rattle.slot_return.proofs.ShownFile.{slotOf, slot-bytes, places-length, week-bytes}
 use Rattle.slot_return.proofs.write_week.Statement.{statement}
 use Rattle.slot_return.proofs.write_week.Tie as tie
@@ -59,13 +59,7 @@ write-week-spec =
     (λ c. (search needs, search needs, refl, refl))
     (λ c κs. search needs)
     minutes-requires
-    (λ c. search needs)
-    (λ c. search needs)
-    (λ c. search needs)
-    (λ c κs. search needs)
-    (λ c. search needs)
-    (λ c. search needs)
-    (λ c. search needs)
+    (λ c. search needs) (λ c. search needs) (λ c. search needs) (λ c κs. search needs) (λ c. search needs) (λ c. search needs) (λ c. search needs)
     loop-again
     (λ c. search needs)
     returns)

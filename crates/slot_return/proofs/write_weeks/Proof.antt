@@ -11,7 +11,7 @@ use Rattle.mathematics.specs.Below.{sumBelow, joinBelow}
 use Rattle.numbers.specs.Number.{store}
 use Rattle.numbers.proofs.Store.{store-join, part-store}
 use Rattle.slot_file.specs.File.{slotBytes, slotBodies}
-use Rattle.slot_return.specs.Shown.{weekCount, weekSlots, shownIn}
+use Rattle.passed_plan.specs.Shown.{weekCount, weekSlots}
 use Rattle.slot_return.proofs.ShownFile.{weeks-room, weeks-length}
 use Rattle.slot_return.proofs.write_weeks.Statement.{statement}
 use Rattle.slot_return.proofs.write_weeks.Tie as tie
@@ -46,7 +46,7 @@ loop-again c =
     )
 
 returns : tie.Need-returns Inv-loop μ-loop
-unfolding slotBodies shownIn
+unfolding slotBodies
 returns c =
     let e : c .before .loop .week ≡ c .before .before .before .before .before .args .f .weeks = omega arith in
     rw e at (c .before .loop .inv .3)
@@ -63,11 +63,9 @@ write-weeks-spec =
     (λ c. omega (arith, room c))
     (λ c. search needs)
     (λ c κs. (search needs, search needs, simp (length-take, length-drop) (omega (arith, room (c .before)))))
-    (λ c κs. search needs)
-    (λ c. search needs)
+    (λ c κs. search needs) (λ c. search needs)
     (λ c. omega (arith, room (c .before .before .before .before .before)))
-    (λ c. search needs)
-    (λ c. search needs)
+    (λ c. search needs) (λ c. search needs)
     loop-again
     (λ c. search needs)
     returns)

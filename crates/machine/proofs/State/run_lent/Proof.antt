@@ -52,14 +52,15 @@ use denote.Exit.{yes}
 use denote.Triple.Clauses.{ensured, lasts}
 use Rattle.sections.specs.declared.Shape.{Shape}
 use Rattle.plant_file.specs.Plant.{plantOf}
-use Rattle.machine.specs.declared.Slot.{Slot}
+use Rattle.slot_file.specs.declared.Slot.{Slot}
 use Rattle.machine.specs.declared.State.{State}
 use Rattle.machine.specs.declared.Step.{Step}
 use Rattle.machine.specs.Run.{runSlots}
-use Rattle.machine.specs.Row.{slotsIn, Runnable}
+use Rattle.slot_file.specs.Row.{slotsIn}
+use Rattle.machine.specs.Row.{Runnable}
 use Rattle.sections.proofs.Shape as shape
-use Rattle.machine.proofs.Slot as slot
-use Rattle.machine.proofs.Slot.Laws as slot-laws
+use Rattle.slot_file.proofs.Slot as slot
+use Rattle.slot_file.proofs.Slot.Laws as slot-laws
 use Rattle.machine.proofs.State as state
 use Rattle.machine.proofs.Step as step
 use Rattle.machine.proofs.Parameters.{shape-val, state-val, plant-val, slot-makes, shape-lawful, slot-lawful, state-lawful, step-lawful}
@@ -98,7 +99,7 @@ module _ {M : Type 1} (𝓤 : URA M) (H : Heap 𝓤) (A : Atoms 𝓤) (mem-at : 
   RunRow = tripleOf 𝓤 H A run-row.signature (run-row.spec 𝓤 H A mem-at run)
 
   abbrev Said : State → RefT (List ℕ) → Shape → List Slot → Step → Type 0
-  Said s plant f slots r = r ≡ runSlots (plantOf f (plant .now)) (slotsIn slots) s
+  Said s plant f slots r = r ≡ runSlots (plantOf f (plant .now)) (plantOf f (plant .now) .line) (slotsIn slots) s
 
   said : (κ κ′ : Lft) (s : State) (plant : RefT (List ℕ)) (f : Shape) (x : RefT (List Slot)) (r : Step)
       → ent 𝓤 (ensured 𝓤 H A run-row.ended (run-row.clauses 𝓤 H A mem-at run) (κ, (κ′, tt)) (s, (plant, (f, (x, tt)))) tt r)
@@ -136,7 +137,7 @@ module _ {M : Type 1} (𝓤 : URA M) (H : Heap 𝓤) (A : Atoms 𝓤) (W : Given
   abbrev Last : Fml
   Last = fsep (Slots .own slots (slots-val ∷ [])) (fsep (usize .own n (vint w64 n ∷ [])) ftrue)
 
-  exits : (r : Step) (u : Val) → r ≡ runSlots (plantOf f (plant .now)) (slotsIn (take n slots)) s
+  exits : (r : Step) (u : Val) → r ≡ runSlots (plantOf f (plant .now)) (plantOf f (plant .now) .line) (slotsIn (take n slots)) s
       → ent 𝓤 (⋆ 𝓤 H A (‵ (step.the-row .own r (u ∷ [])) ∷ ‵ (flft κ q) ∷ ‵ (Plant κ plant) ∷ [])) (Post u)
   exits r u e =
       qed W (‵ (step.the-row .own r (u ∷ [])) ∷ ‵ (flft κ q) ∷ ‵ (Plant κ plant) ∷ []) ∵

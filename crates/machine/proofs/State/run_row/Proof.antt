@@ -52,19 +52,20 @@ use denote.Triple.Clauses.{ensured, lasts}
 use Rattle.sections.specs.declared.Shape.{Shape}
 use Rattle.plant_file.specs.Plant.{plantOf}
 use Rattle.machine.specs.declared.Outcome.the-variants.{Continues}
-use Rattle.machine.specs.declared.Slot.{Slot}
+use Rattle.slot_file.specs.declared.Slot.{Slot}
 use Rattle.machine.specs.declared.State.{State}
 use Rattle.machine.specs.declared.Step.{Step}
 use Rattle.machine.specs.State.{continues, andThen}
 use Rattle.machine.specs.Machine.{slotStep}
 use Rattle.machine.specs.Run.{runSlots}
-use Rattle.machine.specs.Row.{slotOf, slotsIn, Runnable}
+use Rattle.slot_file.specs.Row.{slotOf, slotsIn}
+use Rattle.machine.specs.Row.{Runnable}
 use Rattle.sections.proofs.Shape as shape
 use Rattle.sections.proofs.Shape.Laws as shape-laws
 use Rattle.machine.proofs.Outcome as outcome
 use Rattle.machine.proofs.Outcome.Laws as outcome-laws
-use Rattle.machine.proofs.Slot as slot
-use Rattle.machine.proofs.Slot.Laws as slot-laws
+use Rattle.slot_file.proofs.Slot as slot
+use Rattle.slot_file.proofs.Slot.Laws as slot-laws
 use Rattle.machine.proofs.State as state
 use Rattle.machine.proofs.State.Laws as state-laws
 use Rattle.machine.proofs.Step as step
@@ -130,7 +131,7 @@ module _ {M : Type 1} (𝓤 : URA M) (H : Heap 𝓤) (A : Atoms 𝓤) (mem : Mem
   SlotAfter = tripleOf 𝓤 H A slot-after.signature (slot-after.spec 𝓤 H A mem run)
 
   abbrev Said : Step → RefT (List ℕ) → Shape → Slot → Step → Type 0
-  Said s plant f t r = r ≡ andThen s (slotStep (plantOf f (plant .now)) (slotOf t))
+  Said s plant f t r = r ≡ andThen s (slotStep (plantOf f (plant .now)) (plantOf f (plant .now) .line) (slotOf t))
 
   said : (κ : Lft) (s : Step) (plant : RefT (List ℕ)) (f : Shape) (t : Slot) (r : Step)
       → ent 𝓤 (ensured 𝓤 H A slot-after.ended (slot-after.clauses 𝓤 H A mem run) (κ, tt) (s, (plant, (f, (t, tt)))) tt r) (fact 𝓤 (Said s plant f t r))
@@ -170,7 +171,7 @@ module _ {M : Type 1} (𝓤 : URA M) (H : Heap 𝓤) (A : Atoms 𝓤) (W : Given
   abbrev Lent : Fml
   Lent = fshr-bor κ′ (λ z. arr-parts (shares slot.the-row) n .part z slots b o)
 
-  exits : (r : Step) → Is step.the-row r (step-val r ∷ []) → r ≡ runSlots (plantOf f file) (slotsIn slots) s
+  exits : (r : Step) → Is step.the-row r (step-val r ∷ []) → r ≡ runSlots (plantOf f file) (plantOf f file .line) (slotsIn slots) s
       → ent 𝓤 (⋆ 𝓤 H A (‵ (flft κ q) ∷ ‵ (flft κ′ q′) ∷ ‵ (Plant κ plant) ∷ ‵ Own ∷ [])) (Post (step-val r))
   exits r is e =
       qed W (‵ (flft κ q) ∷ ‵ (flft κ′ q′) ∷ ‵ (Plant κ plant) ∷ ‵ Own ∷ []) ∵
@@ -248,7 +249,7 @@ module _ {M : Type 1} (𝓤 : URA M) (H : Heap 𝓤) (A : Atoms 𝓤) (W : Given
 
       -- what slot i gives after r
       abbrev next : ℕ → Step → Step
-      next i r = andThen r (slotStep (plantOf f file) (slotOf (getD slots i none)))
+      next i r = andThen r (slotStep (plantOf f file) (plantOf f file .line) (slotOf (getD slots i none)))
 
       -- a turn that runs one slot
       more : (i : ℕ) (r : Step) (X : SProp 𝓤) → Is step.the-row r (step-val r ∷ []) → Asked f file (getD slots i none) r → i < n
@@ -309,7 +310,7 @@ module _ {M : Type 1} (𝓤 : URA M) (H : Heap 𝓤) (A : Atoms 𝓤) (W : Given
           fits = omega (arith, room .0, l)
 
       -- the turn that leaves the loop, and the rest of the body
-      ends : (r : Step) (X : SProp 𝓤) → Is step.the-row r (step-val r ∷ []) → r ≡ runSlots (plantOf f file) (slotsIn slots) s
+      ends : (r : Step) (X : SProp 𝓤) → Is step.the-row r (step-val r ∷ []) → r ≡ runSlots (plantOf f file) (plantOf f file .line) (slotsIn slots) s
           → ent 𝓤 (⋆ 𝓤 H A (Owned n r)) (Wp 𝓤 H C Λ En body.turn-1 (afterTurn 𝓤 H X Left))
       unfolding afterTurn
       ends r X is e =

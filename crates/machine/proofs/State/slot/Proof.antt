@@ -9,7 +9,7 @@ returns : tie.Need-returns
 unfolding withBacklog
 returns c =
     let done = c .before .before .before .before in
-    slot-parts _ _ _ _ _ (done .slot-state .ensures) (done .before .slot-outcome .ensures)
+    slot-parts _ _ _ _ _ _ (done .before .slot-outcome .ensures) (done .slot-state .ensures)
 
 pub slot-spec : {M : Type 1} → statement M
 slot-spec = tie.close (tie.spec (λ c κs. search needs) (λ c κs. search needs) returns)

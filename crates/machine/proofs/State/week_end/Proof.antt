@@ -1,14 +1,16 @@
 -- `machine::State::week_end` meets its contract. Assumes nothing.
 use Prim.Native.Nat.{_≤_}
-use mathlib.Core.Path.{sym, ap, _∙_}
+use mathlib.Core.Path.{_≡_, sym, ap, _∙_}
 use native.Mathlib.Omega.{arith}
 use borrow.Author.Needs.{needs}
 use lib.Signed.{mag}
-use Rattle.machine.specs.State.{continues}
+use Rattle.plant_file.specs.Plant.{plantOf}
+use Rattle.machine.specs.State.{continues, firstMet}
+use Rattle.machine.specs.Files.{weekOfFiles}
 use Rattle.machine.specs.Bounds.{Roomy}
 use Rattle.machine.proofs.Plants.{counts}
 use Rattle.machine.proofs.Sanity.{sane-roomy}
-use Rattle.machine.proofs.Steps.{week-stops, week-continues, week-parts}
+use Rattle.machine.proofs.Steps.{tries, week-stops, week-continues, week-parts}
 use Rattle.machine.proofs.State.week_end.Statement.{statement}
 use Rattle.machine.proofs.State.week_end.Tie as tie
 
@@ -29,12 +31,16 @@ amounts c =
     let start = c .before .before .before .before .before in
     (omega (arith, roomy start .profit-most), carried .revenue-most, carried .charge-most, c .before .inventory-update .ensures .charge-most)
 
+-- the outcome of the three tests
+tested : (c : tie.After-week-outcome) → let a = c .before .before .before .before .before .args in
+    c .week-outcome .result ≡ firstMet (tries (plantOf (a .f) (a .plant .now)) (weekOfFiles (a .f) (a .plant .now) (a .slots .now) (a .week)) (a .self))
+tested c =
+    let carried = c .before .before .backlog-update .ensures in
+    let sold = c .before .inventory-update .ensures in
+    rw (← (carried .due), ← (sold .in-stock), ← (sold .kept)) (c .week-outcome .ensures)
+
 returns : tie.Need-returns
-returns c =
-    let d = c .before .before in
-    let carried = d .before .before .backlog-update .ensures in
-    let sold = d .before .inventory-update .ensures in
-    week-stops _ _ _ _ _ _ _ (carried .due) (sold .in-stock) (sold .kept) _ _ (d .week-outcome .ensures) (c .enum-told .given .1)
+returns c = let d = c .before .before in week-stops _ _ _ _ (tested d) _ (c .enum-told .given .1)
 
 returns-2 : tie.Need-returns-2
 returns-2 c =
@@ -43,9 +49,8 @@ returns-2 c =
     let carried = d .before .before .backlog-update .ensures in
     let sold = d .before .inventory-update .ensures in
     ap continues
-    (week-parts _ _ _ _ _ _ _ carried sold (rw (paid .pay2 .ensures .0, paid .before .pay .ensures .0, paid .before .before .gain .ensures .0)))
-    ∙ sym (week-continues _ _ _ _ _ _ _ (carried .due) (sold .in-stock) (sold .kept) _ (d .week-outcome .ensures)
-    (paid .before .before .before .enum-told2 .given .1))
+    (week-parts _ _ _ _ _ _ carried sold (rw (paid .pay2 .ensures .0, paid .before .pay .ensures .0, paid .before .before .gain .ensures .0)))
+    ∙ sym (week-continues _ _ _ _ (tested d) (paid .before .before .before .enum-told2 .given .1))
 
 pub week-end-spec : {M : Type 1} → statement M
 week-end-spec =
@@ -53,8 +58,7 @@ week-end-spec =
     (tie.spec
     (λ c κs. (c .before .before .pre .0, roomy (c .before .before)))
     (λ c κs. (c .before .before .before .pre .0, roomy (c .before .before .before)))
-    (λ c κs. search needs)
-    (λ c. search needs)
+    (λ c κs. search needs) (λ c. search needs)
     returns
     (λ c. search needs)
     (λ c κs. omega (arith, amounts (c .before .before)))

@@ -1,0 +1,30 @@
+-- Laws of what is mounted, and of the lookup of a changeover. Assumes nothing.
+use Prim.Native.Nat.{ℕ, _≤_, _<_}
+use Prim.{tt}
+use mathlib.Core.Path.{_≡_}
+use native.Mathlib.Omega.{arith}
+use Rattle.costs.specs.declared.Mounted.{Mounted}
+use Rattle.costs.specs.declared.Mounted.the-variants.{Nothing, Product}
+use Rattle.plant_file.specs.Plant.{LinePlant}
+use Rattle.costs.specs.Mounted.{mountedBelow, openingMounted}
+use Rattle.costs.specs.Changeover.{changeoverBetween, changeoverTo}
+
+-- it takes at most what the table's entries do
+pub between-most : (N most : ℕ) (table : ℕ → ℕ → ℕ) → ((i j : ℕ) → i < N → j < N → table i j ≤ most) → (i j : ℕ) → i < N → j < N
+    → changeoverBetween table i j ≤ most
+unfolding changeoverBetween
+between-most N most table h = h
+
+-- what is mounted, by its number
+pub mounted-at : (N : ℕ) {m : Mounted} {q r : ℕ} → mountedBelow N m → m ≡ Product q → r ≡ q → r < N
+mounted-at N {m} {q} {r} h e g = let l : q < N = rw e at h in omega arith
+
+pub to-most : (N most : ℕ) (table : ℕ → ℕ → ℕ) → ((i j : ℕ) → i < N → j < N → table i j ≤ most) → (m : Mounted) (p : ℕ) → mountedBelow N m → p < N
+    → changeoverTo table m p ≤ most
+to-most N most table h Nothing p a b = omega arith
+to-most N most table h (Product q) p a b = between-most N most table h q p a b
+
+-- what is mounted at first is a product
+pub opening-below : (N : ℕ) (l : LinePlant) → mountedBelow N (openingMounted l)
+unfolding openingMounted
+opening-below N l = tt

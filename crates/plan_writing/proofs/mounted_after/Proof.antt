@@ -1,0 +1,42 @@
+-- `plan_writing::mounted_after` meets its contract. Assumes nothing.
+use borrow.Author.Needs.{needs}
+use native.Mathlib.Omega.{arith}
+use mathlib.Core.Path.{_≡_, refl, ap, _∙_}
+use mathlib.Core.List.{List, [], _∷_}
+use Prim.Native.Nat.{ℕ, zero, suc, _-_}
+use lib.ListN.{length}
+use Rattle.mathematics.specs.Order.{orderAt}
+use Rattle.slot_file.specs.Slots.{orderOfSlots}
+use Rattle.costs.specs.declared.Mounted.{Mounted}
+use Rattle.costs.specs.declared.Mounted.the-variants.{Product}
+use Rattle.model.specs.RunTables.{lastOf}
+use Rattle.plan_writing.specs.Ran.{slotsIn}
+use Rattle.plan_writing.proofs.WeekRows.{order-size, some-slot, product-at}
+use Rattle.plan_writing.proofs.mounted_after.Statement.{statement}
+use Rattle.plan_writing.proofs.mounted_after.Tie as tie
+
+-- after some products the last is mounted
+last-mounted : (m : Mounted) (ps : List ℕ) (n : ℕ) → length ps ≡ suc n → Product (orderAt ps n) ≡ lastOf m ps
+last-mounted m [] n e = absurd (omega arith)
+last-mounted m (p ∷ []) zero e = refl
+last-mounted m (p ∷ []) (suc n) e = absurd (omega arith)
+last-mounted m (p ∷ q ∷ ps) zero e = absurd (omega arith)
+last-mounted m (p ∷ q ∷ ps) (suc n) e = last-mounted (Product p) (q ∷ ps) n (omega arith)
+
+returns-2 : tie.Need-returns-2
+returns-2 c =
+    let s = c .before .before .before in
+    let a = s .args in
+    let ps = orderOfSlots (slotsIn (a .f) (a .slots .now) (a .row)) in
+    ap Product (product-at (s .pre .0) (a .row .count - 1) (c .row-product .ensures .0))
+    ∙ last-mounted (a .mounted) ps (a .row .count - 1) (omega (arith, order-size (s .pre .0), some-slot (s .pre .0)))
+
+pub mounted-after-spec : {M : Type 1} → statement M
+mounted-after-spec =
+    tie.close
+    (tie.spec
+    (λ c. absurd (omega (arith, c .if1 .taken, some-slot (c .before .before .pre .0))))
+    (λ c. search needs)
+    (λ c κs. (c .before .before .pre .0 .row-of, c .before .before .pre .0 .week, omega (arith, c .if1 .left)))
+    (λ c. search needs)
+    returns-2)

@@ -1,5 +1,5 @@
-//! P1 to P12: the small plant and changes to it, each with what the product's
-//! paper says of it. The other tables and the profit follow each change.
+//! P1 to P12: the small plant and changes to it, as README.md lists them, each
+//! with its answer. The other tables and the profit follow each change.
 
 use crate::following;
 use crate::model::{Plan, Plant, Refusal, Sizes, Slots, Storage};

@@ -18,8 +18,8 @@ pub fn plan(plant: &Plant, slots: &Slots) -> Plan {
 /// P, V, Δ and the profit, after what the plan has for the other tables.
 pub fn settle(plant: &Plant, plan: &mut Plan) {
     fill_grams(plant, plan);
-    fill_owed(plant, plan);
-    fill_stock(plant, plan);
+    fill_backlog(plant, plan);
+    fill_inventory(plant, plan);
     fill_profit(plant, plan);
 }
 
@@ -64,7 +64,7 @@ pub fn fill_grams(plant: &Plant, plan: &mut Plan) {
 }
 
 /// Δ after S.
-pub fn fill_owed(plant: &Plant, plan: &mut Plan) {
+pub fn fill_backlog(plant: &Plant, plan: &mut Plan) {
     let sizes = plant.sizes;
     for customer in 0..sizes.customers {
         for product in 0..sizes.products {
@@ -82,7 +82,7 @@ pub fn fill_owed(plant: &Plant, plan: &mut Plan) {
 }
 
 /// V after P and S.
-pub fn fill_stock(plant: &Plant, plan: &mut Plan) {
+pub fn fill_inventory(plant: &Plant, plan: &mut Plan) {
     let sizes = plant.sizes;
     for product in 0..sizes.products {
         let mut inventory = plant.opening_inventory[product];

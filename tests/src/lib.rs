@@ -4,7 +4,7 @@
 //! - [`library`]: the three calls of the compiled library.
 //! - [`reference`]: the same three calls of the second implementation.
 //!
-//! The second implementation, after the product's paper:
+//! The second implementation, after docs/FORMATS.md:
 //!
 //! - [`model`]: the numbers of the three files.
 //! - [`layout`]: from numbers to bytes.

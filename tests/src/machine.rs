@@ -16,7 +16,7 @@ pub struct Machine<'plant> {
     /// Grams, by customer and product.
     pub backlog: Vec<u64>,
     /// In thousandths of a cent.
-    pub purse: i64,
+    pub profit: i64,
 }
 
 impl<'plant> Machine<'plant> {
@@ -28,7 +28,7 @@ impl<'plant> Machine<'plant> {
             ran: vec![false; plant.sizes.products],
             inventory: plant.opening_inventory.iter().copied().map(u64::from).collect(),
             backlog: plant.opening_backlog.iter().copied().map(u64::from).collect(),
-            purse: 0,
+            profit: 0,
         }
     }
 
@@ -49,7 +49,7 @@ impl<'plant> Machine<'plant> {
         if let Some(mounted) = self.mounted {
             let place = self.plant.sizes.from_to(mounted, product);
             self.clock += u64::from(self.plant.changeover_minutes[place]);
-            self.purse -= 1000 * i64::from(self.plant.changeover_cents[place]);
+            self.profit -= 1000 * i64::from(self.plant.changeover_cents[place]);
         }
         self.clock += u64::from(slot.minutes);
         if self.clock > u64::from(self.plant.week_minutes) {
@@ -77,8 +77,8 @@ impl<'plant> Machine<'plant> {
                     return Err(38);
                 }
                 self.backlog[pair] = asked - sale;
-                self.purse += worth(plant.prices[pair], sale);
-                self.purse -= worth(plant.backlog_costs[pair], self.backlog[pair]);
+                self.profit += worth(plant.prices[pair], sale);
+                self.profit -= worth(plant.backlog_costs[pair], self.backlog[pair]);
             }
         }
         for product in 0..products {
@@ -97,7 +97,7 @@ impl<'plant> Machine<'plant> {
             if inventory < u64::from(limits.least) || inventory > u64::from(limits.greatest) {
                 return Err(40);
             }
-            self.purse -= worth(plant.inventory_costs[product], inventory);
+            self.profit -= worth(plant.inventory_costs[product], inventory);
         }
         Ok(())
     }
@@ -128,7 +128,7 @@ pub fn run(plant: &Plant, slots: &Slots) -> Result<Plan, Refusal> {
         record_slots(&mut plan, plant, week, mounted, row);
         record_balance(&mut plan, &machine, week);
     }
-    plan.profit = machine.purse;
+    plan.profit = machine.profit;
     Ok(plan)
 }
 
@@ -171,7 +171,7 @@ fn record_balance(plan: &mut Plan, machine: &Machine, week: usize) {
     }
 }
 
-/// Stock is within storage, and what is owed is at most 27 times 100,000,000.
+/// Inventory is within storage, and backlog is at most 27 times 100,000,000.
 fn four_bytes(grams: u64) -> u32 {
     u32::try_from(grams).expect("grams of four bytes")
 }

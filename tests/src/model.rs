@@ -65,7 +65,7 @@ impl Sizes {
     }
 }
 
-/// The limits of a product's stock, in grams.
+/// The limits of a product's inventory, in grams.
 #[derive(Clone, Copy, Debug, PartialEq, Eq)]
 pub struct Storage {
     pub least: u32,
@@ -120,9 +120,9 @@ pub struct Plan {
     pub grams: Vec<u32>,
     /// S: grams sold, by customer, product and week.
     pub sales: Vec<u32>,
-    /// V: grams in stock after the week, by week and product.
+    /// V: inventory in grams after the week, by week and product.
     pub inventory: Vec<u32>,
-    /// Δ: grams owed after the week, by customer, product and week.
+    /// Δ: backlog in grams after the week, by customer, product and week.
     pub backlog: Vec<u32>,
     /// In thousandths of a cent.
     pub profit: i64,

@@ -26,10 +26,10 @@ impl Scenario {
         for week in 0..sizes.weeks {
             schedule.add_week(random, week);
         }
-        let Schedule { slots, least_stock, greatest_stock, .. } = schedule;
-        plant.storage = least_stock
+        let Schedule { slots, least_inventory, greatest_inventory, .. } = schedule;
+        plant.storage = least_inventory
             .into_iter()
-            .zip(greatest_stock)
+            .zip(greatest_inventory)
             .map(|(least, greatest)| storage(random, least, greatest))
             .collect();
         Scenario { plant, slots }
@@ -142,14 +142,14 @@ fn plant(random: &mut Random, sizes: Sizes) -> Plant {
 }
 
 /// Limits that hold these numbers, where storage can be so great.
-fn storage(random: &mut Random, least_stock: u64, greatest_stock: u64) -> Storage {
-    let (least_stock, greatest_stock) =
-        (least_stock.min(MOST_STORAGE), greatest_stock.min(MOST_STORAGE));
-    let any_least = random.between(0, least_stock);
-    let any_greatest = random.between(greatest_stock, MOST_STORAGE);
+fn storage(random: &mut Random, least_inventory: u64, greatest_inventory: u64) -> Storage {
+    let (least_inventory, greatest_inventory) =
+        (least_inventory.min(MOST_STORAGE), greatest_inventory.min(MOST_STORAGE));
+    let any_least = random.between(0, least_inventory);
+    let any_greatest = random.between(greatest_inventory, MOST_STORAGE);
     Storage {
-        least: random.pick(&[0, any_least, least_stock]) as u32,
-        greatest: random.pick(&[greatest_stock, any_greatest, MOST_STORAGE]) as u32,
+        least: random.pick(&[0, any_least, least_inventory]) as u32,
+        greatest: random.pick(&[greatest_inventory, any_greatest, MOST_STORAGE]) as u32,
     }
 }
 
@@ -159,8 +159,8 @@ struct Schedule<'plant> {
     mounted: Option<usize>,
     inventory: Vec<u64>,
     backlog: Vec<u64>,
-    least_stock: Vec<u64>,
-    greatest_stock: Vec<u64>,
+    least_inventory: Vec<u64>,
+    greatest_inventory: Vec<u64>,
     slots: Slots,
 }
 
@@ -172,8 +172,8 @@ impl<'plant> Schedule<'plant> {
             mounted: None,
             inventory: plant.opening_inventory.iter().copied().map(u64::from).collect(),
             backlog: plant.opening_backlog.iter().copied().map(u64::from).collect(),
-            least_stock: vec![u64::MAX; sizes.products],
-            greatest_stock: vec![0; sizes.products],
+            least_inventory: vec![u64::MAX; sizes.products],
+            greatest_inventory: vec![0; sizes.products],
             slots: Slots {
                 counts: Vec::new(),
                 slots: Vec::new(),
@@ -252,8 +252,8 @@ impl<'plant> Schedule<'plant> {
         }
         for product in 0..sizes.products {
             let inventory = self.inventory[product];
-            self.least_stock[product] = self.least_stock[product].min(inventory);
-            self.greatest_stock[product] = self.greatest_stock[product].max(inventory);
+            self.least_inventory[product] = self.least_inventory[product].min(inventory);
+            self.greatest_inventory[product] = self.greatest_inventory[product].max(inventory);
         }
     }
 }

@@ -34,7 +34,7 @@ fn the_folder_holds_the_facts() {
 }
 
 #[test]
-fn the_paper_has_twelve_facts() {
+fn there_are_twelve_facts() {
     let expected: [Option<Refusal>; 12] = [
         None,
         Some(41),

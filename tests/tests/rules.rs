@@ -44,7 +44,7 @@ fn examples() -> [(Refusal, (Plant, Plan)); 11] {
             37,
             changed(|plant, plan| {
                 plan.grams[3] += 1;
-                following::fill_stock(plant, plan);
+                following::fill_inventory(plant, plan);
                 following::fill_profit(plant, plan);
             }),
         ),

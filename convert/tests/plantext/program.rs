@@ -14,7 +14,7 @@ struct Folder {
 
 impl Folder {
     fn new(name: &str) -> Folder {
-        let path = Path::new(env!("CARGO_TARGET_TMPDIR")).join(name);
+        let path = Path::new(env!("CARGO_TARGET_TMPDIR")).join("plantext").join(name);
         if path.exists() {
             fs::remove_dir_all(&path).expect("an old folder goes");
         }

@@ -11,19 +11,13 @@ use Rattle.costs.specs.declared.Mounted.the-variants.{Nothing, Product}
 unfoldable pub changeoverBetween : (table : ℕ → ℕ → ℕ) (from to : ℕ) → ℕ
 changeoverBetween table from to = table from to
 
--- a changeover as it was looked up, and its ranges
-pub record LookedUp (line : LinePlant) (from to : ℕ) (r : Changeover) : Type 0 where
-  pub minutes : r .minutes .0 ≡ changeoverBetween (line .changeoverMinutes) from to
-  pub cents : r .cents .0 ≡ changeoverBetween (line .changeoverCents) from to
-  pub minutes-most : r .minutes .0 ≤ mostChangeoverMinutes
-  pub cents-most : r .cents .0 ≤ mostChangeoverCents
-
 -- the changeover from what is mounted to a product, in a table of the line; from nothing there is none
 abbrev pub changeoverTo : (table : ℕ → ℕ → ℕ) → Mounted → ℕ → ℕ
 changeoverTo table Nothing p = 0
 changeoverTo table (Product q) p = changeoverBetween table q p
 
-pub record LookedUpTo (line : LinePlant) (from : Mounted) (product : ℕ) (r : Changeover) : Type 0 where
+-- a changeover as it was looked up, and its ranges
+pub record LookedUp (line : LinePlant) (from : Mounted) (product : ℕ) (r : Changeover) : Type 0 where
   pub minutes : r .minutes .0 ≡ changeoverTo (line .changeoverMinutes) from product
   pub cents : r .cents .0 ≡ changeoverTo (line .changeoverCents) from product
   pub minutes-most : r .minutes .0 ≤ mostChangeoverMinutes

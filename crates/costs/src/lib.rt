@@ -5,7 +5,8 @@ ghost use Rattle.sections.specs.declared.Form.the-variants.{Good};
 ghost use Rattle.plant_file.specs.Plant.{plantOf};
 ghost use Rattle.plant_file.specs.Form.{plantForm};
 ghost use Rattle.costs.specs.Mounted.{mountedBelow, isMounted, openingMounted};
-ghost use Rattle.costs.specs.Changeover.{LookedUp, LookedUpTo};
+ghost use Rattle.costs.specs.declared.Mounted.the-variants.{Product};
+ghost use Rattle.costs.specs.Changeover.{LookedUp};
 use numbers::as_usize;
 use plant_file::changeover_cents;
 use plant_file::changeover_minutes;
@@ -42,7 +43,7 @@ pub fn is_mounted(mounted: Mounted, product: usize) -> u64
 // The changeover of an arc: the product before times the count of products, plus the product after.
 pub fn changeover(plant: &[u8], f: Shape, arc: usize) -> Changeover
     requires { ⌜ (plantForm (now plant) ≡ Good f) × (arc < f .products * f .products) ⌝ }
-    ensures { λ r. ⌜ LookedUp (plantOf f (now (plant .entry)) .line) (arc / f .products) (arc % f .products) r ⌝ }
+    ensures { λ r. ⌜ LookedUp (plantOf f (now (plant .entry)) .line) (Product (arc / f .products)) (arc % f .products) r ⌝ }
 {
     let minutes = changeover_minutes(plant, f, arc);
     let cents = changeover_cents(plant, f, arc);
@@ -55,7 +56,7 @@ pub fn changeover(plant: &[u8], f: Shape, arc: usize) -> Changeover
 // The changeover from what is mounted to a product; from nothing there is none.
 pub fn changeover_to(plant: &[u8], f: Shape, mounted: Mounted, product: usize) -> Changeover
     requires { ⌜ (plantForm (now plant) ≡ Good f) × mountedBelow (f .products) mounted × (product < f .products) ⌝ }
-    ensures { λ r. ⌜ LookedUpTo (plantOf f (now (plant .entry)) .line) mounted product r ⌝ }
+    ensures { λ r. ⌜ LookedUp (plantOf f (now (plant .entry)) .line) mounted product r ⌝ }
 {
     match mounted {
         Mounted::Nothing => Changeover {

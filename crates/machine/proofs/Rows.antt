@@ -33,7 +33,8 @@ none = record { product = 0; minutes = record { 0 = 0 } }
 pub record Reached (f : Shape) (plant : List ℕ) (row : List Slot) (s : State) (i : ℕ) (r : Step) : Type 0 where
   pub within : i ≤ length row
   pub sane : r .outcome ≡ Continues → Sane f 26 i (r .state)
-  pub same : andThen r (runSlots (plantOf f plant) (plantOf f plant .line) (drop i (slotsIn row))) ≡ runSlots (plantOf f plant) (plantOf f plant .line) (slotsIn row) s
+  pub same : andThen r (runSlots (plantOf f plant) (plantOf f plant .line) (drop i (slotsIn row)))
+      ≡ runSlots (plantOf f plant) (plantOf f plant .line) (slotsIn row) s
 
 -- what a slot asks after r
 abbrev pub Asked : Shape → List ℕ → Slot → Step → Type 0

@@ -90,7 +90,8 @@ module _ (plant : List ℕ) (f : Shape) (good : plantForm plant ≡ Good f) wher
   unfolding clockAfter slotDone inventoryOf hasRun withInventory withLine withWeek withProfit withMounted
   slot-sane {w} {k} {s} x p h goes =
       let line = plantOf f plant .line in
-      let cents = to-most (f .products) mostChangeoverCents (line .changeoverCents) (ranges .line .cents-most) (s .line .mounted) (x .product) (h .mounted-below) p in
+      let cents = to-most (f .products) mostChangeoverCents (line .changeoverCents) (ranges .line .cents-most) (s .line .mounted) (x .product)
+      (h .mounted-below) p in
       let m : x .minutes ≤ mostWeekMinutes = omega (arith, ranges .week-most, goes .early) in
       let grams = mul-le-mul (ranges .line .rate-most (x .product) p) m in
       let room : x .product < length (s .inventory) = omega (arith, h .inventory-long, ranges .products-most) in
@@ -101,8 +102,10 @@ module _ (plant : List ℕ) (f : Shape) (good : plantForm plant ≡ Good f) wher
             set-at-most (s .inventory) (x .product) _ _ i room (omega (arith, grams, h .inventory-most _ p)) (λ d. omega (arith, h .inventory-most i q));
         backlog-most = h .backlog-most;
         clock-most = omega (arith, ranges .week-most, goes .early);
-        profit-most = omega (arith, mag-sub (s .profit .0) (1000 * changeoverTo (line .changeoverCents) (s .line .mounted) (x .product)), cents, h .profit-most);
-        ran-most = digit-room (x .product) 16 (s .line .ran) (omega (arith, ranges .products-most)) (h .ran-most) (digit-unset (s .line .ran) (x .product) (goes .fresh));
+        profit-most =
+            omega (arith, mag-sub (s .profit .0) (1000 * changeoverTo (line .changeoverCents) (s .line .mounted) (x .product)), cents, h .profit-most);
+        ran-most = digit-room (x .product) 16 (s .line .ran) (omega (arith, ranges .products-most)) (h .ran-most)
+            (digit-unset (s .line .ran) (x .product) (goes .fresh));
         mounted-below = p;
       }
 

@@ -4,22 +4,23 @@ use Prim.Native.Nat.{ℕ, zero, suc, _<_, _≤_}
 use mathlib.Core.Path.{_≡_, refl, sym, ap, _∙_}
 use mathlib.Core.Logic.{_↔_}
 use mathlib.Core.Bool.{Bool, true, false, _||_, or-true}
-use mathlib.Core.List.{List, []}
+use mathlib.Core.List.{List}
 use native.Mathlib.Omega.{arith}
 use native.Mathlib.Decide.{ℕ-discrete}
 use lib.ListN.{length}
 use lib.Seq.{ext-getD}
 use lib.Dec.{eqb}
 use borrow.Author.Tests.{eqb-true, eq-eqb}
-use Rattle.mathematics.specs.Below.{sumBelow, listBelow}
+use Rattle.mathematics.specs.Below.{sumBelow}
 use Rattle.mathematics.specs.Week.{WeekTables, count, binary, rule31, shut, rule32, rule34, Meets}
 use Rattle.mathematics.specs.Order.{orderAt, isOrder, firstIn, positionIn, orderTables, productAt, orderOf, Agree}
 use Rattle.mathematics.proofs.Below.{sum-ext, sum-zero, term-le-sum, first-below}
 use Rattle.mathematics.proofs.Sums.{length-list, getD-list}
-use Rattle.mathematics.proofs.WeekRules.{WeekFacts, all-into, facts31, facts-of, meets-first, week-facts, shut-facts, facts-shut, holds31, holds32, holds34}
-use Rattle.mathematics.proofs.WeekRules.{facts-binary, facts-meet, facts-agree}
+use Rattle.mathematics.proofs.WeekRules.{WeekFacts, all-into, facts31, facts-of, meets-first, week-facts, shut-facts, facts-shut}
+use Rattle.mathematics.proofs.WeekRules.{holds31, holds32, holds34, facts-binary, facts-meet, facts-agree}
 use Rattle.mathematics.proofs.WeekPositions.{some-first, position-some, position-only, agree-by-position}
-use Rattle.mathematics.proofs.OrderTables.{OrderFacts, order-facts, facts-order, position-index, position-means, order-count, sum-first-in, order-week-facts}
+use Rattle.mathematics.proofs.OrderTables.{OrderFacts, order-facts, facts-order, position-index, position-means}
+use Rattle.mathematics.proofs.OrderTables.{order-count, sum-first-in, order-week-facts}
 
 -- n is the length of the order that the tables show
 pub order-length : (N : ℕ) (x : WeekTables) → length (orderOf N x) ≡ count N x
@@ -131,16 +132,6 @@ module _ (N : ℕ) (x : WeekTables) where
         let w = order-agree N x (r .0) (r .1) (r .2) in
         (facts-binary N x w, open-or-shut w, holds32 N x w, holds34 N x w),
   )
-
-  -- a shut week has the tables of no product
-  empty-order : count N x ≡ 0 → orderOf N x ≡ []
-  unfolding orderOf
-  empty-order e = ap (λ (n : ℕ). listBelow n (productAt N x)) e
-
-  pub shut-tables : binary N x ≡ true → shut N x ≡ true → rule32 N x ≡ true → rule34 N x ≡ true → Agree N x (orderTables [])
-  shut-tables bits none into rising =
-      let w = facts-of N x bits (few-first (rw none (or-true (rule31 N x)))) into rising in
-      rw (empty-order (sum-zero N (x .assigned) (λ i l. shut-facts N x none i l .0))) at (shown-agree N x w)
 
 -- two orders with the same positions are equal
 pub uniqueness : (N : ℕ) (a b : List ℕ) → isOrder N a ≡ true → isOrder N b ≡ true

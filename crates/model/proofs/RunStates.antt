@@ -146,7 +146,8 @@ module _ (P : Plant) (S : Slots) where
   unfolding ranWeek weekBegin withLine withWeek changeoverChargeIn runTables
   ran-profit n f =
       slots-profit (P .line) (S .line .week n) (weekBegin (after P S n))
-      ∙ ap (λ (x : ℕ). after P S n .profit .0 -ℤ pos (changeoverChargeOf x)) (sym (changeover-total (P .line .changeoverCents) n (λ w l. f w (omega arith)) (f n (omega arith))))
+      ∙ ap (λ (x : ℕ). after P S n .profit .0 -ℤ pos (changeoverChargeOf x))
+      (sym (changeover-total (P .line .changeoverCents) n (λ w l. f w (omega arith)) (f n (omega arith))))
 
   pub after-profit : (n : ℕ) → FormedTo n → after P S n .profit .0 ≡ profitOf P (runTables P S) n
   unfolding opening profitOf revenueIn backlogChargeIn inventoryChargeIn runTables

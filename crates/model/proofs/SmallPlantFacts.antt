@@ -6,7 +6,8 @@ use Rattle.mathematics.specs.Below.{is}
 use Rattle.mathematics.specs.Week.{markedOnce, rule31, rule32, rule34}
 use Rattle.machine.specs.declared.Outcome.the-variants.{Continues, Stops}
 use Rattle.machine.specs.State.{inventoryOf, backlogOf, hasRun, withInventory, withBacklog, withLine, withWeek, withProfit, withMounted}
-use Rattle.machine.specs.Machine.{weekBegin, clockAfter, slotDone, slotStops, slotStep, salesDue, backlogAfter, salesInStock, inventoryAfter, storageKept, booked}
+use Rattle.machine.specs.Machine.{weekBegin, clockAfter, slotDone, slotStops, slotStep, salesDue, backlogAfter}
+use Rattle.machine.specs.Machine.{salesInStock, inventoryAfter, storageKept, booked}
 use Rattle.machine.specs.Machine.{weekDone, weekEnd}
 use Rattle.machine.specs.Run.{opening, runWeek, run, ranWeek}
 use Rattle.rules.specs.declared.Verdict.the-variants.{Passed, Broken}

@@ -10,7 +10,8 @@ use lib.IntN.{pos, _-ℤ_}
 use lib.Signed.{mag}
 use Rattle.mathematics.specs.Below.{sumBelow}
 use Rattle.mathematics.proofs.Tables.{sum-few}
-use Rattle.sections.specs.Limits.{mostProducts, mostCustomers, mostWeeks, mostChangeoverCents, mostDemand, mostUnitCost, mostStorage, mostOpeningBacklog, mostWeekMinutes, mostBacklog}
+use Rattle.sections.specs.Limits.{mostProducts, mostCustomers, mostWeeks, mostChangeoverCents, mostDemand, mostUnitCost, mostStorage}
+use Rattle.sections.specs.Limits.{mostOpeningBacklog, mostWeekMinutes, mostBacklog}
 use Rattle.plant_file.specs.Plant.{Plant}
 use Rattle.plant_file.specs.Ranges.{PlantRanges}
 use Rattle.plan_file.specs.Plan.{Plan, PlanFits}

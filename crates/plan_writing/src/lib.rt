@@ -234,7 +234,8 @@ fn write_row(
     requires { ⌜ Ran f (now plant) (now slots) × (place < 8) × (width ≡ sectionOf f place .width) × WeekRow f (now slots) row
         × (mounted ≡ mountedAt (plantOf f (now plant)) (slotsOf f (now slots)) (row .week)) × Cleared (width * sectionOf f place .columns) (now out) ⌝ }
     ensures { λ _. ⌜ now (out .exit) ≡ store (now (out .entry)) 0
-        (encode width (sectionOf f place .columns) (rowIn f (runTables (plantOf f (now (plant .entry))) (slotsOf f (now (slots .entry)))) place (row .week))) ⌝ }
+        (encode width (sectionOf f place .columns)
+        (rowIn f (runTables (plantOf f (now (plant .entry))) (slotsOf f (now (slots .entry)))) place (row .week))) ⌝ }
 {
     if place < plan_file::MINUTES {
         return write_marks(out, slots, f, place, row, mounted);
@@ -379,8 +380,8 @@ fn write_inventory(out: &mut [u8], plant: &[u8], slots: &[u8], f: Shape)
 
 // Stores the body in a place at the start of what is lent.
 fn write_body(out: &mut [u8], plant: &[u8], slots: &[u8], f: Shape, profit: u64, place: usize)
-    requires { ⌜ Ran f (now plant) (now slots) × (profit ≡ unsignedOf (runTables (plantOf f (now plant)) (slotsOf f (now slots)) .profit)) × (place < planKind .sections)
-        × (getD (planLengths f) place 0 ≤ length (now out)) ⌝ }
+    requires { ⌜ Ran f (now plant) (now slots) × (profit ≡ unsignedOf (runTables (plantOf f (now plant)) (slotsOf f (now slots)) .profit))
+        × (place < planKind .sections) × (getD (planLengths f) place 0 ≤ length (now out)) ⌝ }
     ensures { λ _. ⌜ now (out .exit) ≡ store (now (out .entry)) 0
         (getD (planBodies f (runTables (plantOf f (now (plant .entry))) (slotsOf f (now (slots .entry))))) place []) ⌝ }
 {

@@ -12,7 +12,8 @@ use Rattle.sections.specs.declared.Layout.{Layout}
 use Rattle.sections.specs.declared.Shape.{Shape}
 use Rattle.sections.specs.declared.Form.{Form}
 use Rattle.sections.specs.declared.Form.the-variants.{Good}
-use Rattle.sections.specs.Limits.{mostProducts, mostCustomers, mostWeeks, mostRate, mostChangeoverMinutes, mostChangeoverCents, mostDemand, mostUnitCost, mostStorage, mostOpeningBacklog, mostWeekMinutes}
+use Rattle.sections.specs.Limits.{mostProducts, mostCustomers, mostWeeks, mostRate, mostChangeoverMinutes, mostChangeoverCents, mostDemand}
+use Rattle.sections.specs.Limits.{mostUnitCost, mostStorage, mostOpeningBacklog, mostWeekMinutes}
 
 -- section 1: N, C, W, a byte each
 unfoldable pub shapeOf : List ℕ → Shape

@@ -1,7 +1,8 @@
 -- Every range of a plant's numbers, as paper 01 lists them under "Files". Assumes nothing.
 use Prim.Native.Nat.{ℕ, _≤_, _<_}
 use mathlib.Core.Path.{_≡_}
-use Rattle.sections.specs.Limits.{mostProducts, mostCustomers, mostWeeks, mostRate, mostChangeoverMinutes, mostChangeoverCents, mostDemand, mostUnitCost, mostStorage, mostOpeningBacklog, mostWeekMinutes}
+use Rattle.sections.specs.Limits.{mostProducts, mostCustomers, mostWeeks, mostRate, mostChangeoverMinutes, mostChangeoverCents, mostDemand}
+use Rattle.sections.specs.Limits.{mostUnitCost, mostStorage, mostOpeningBacklog, mostWeekMinutes}
 use Rattle.plant_file.specs.Plant.{LinePlant, Plant}
 
 -- sections 2 to 4, of a line for N products

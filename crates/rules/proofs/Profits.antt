@@ -89,11 +89,13 @@ rule41-is P x z a b p g l = (λ u. sameInteger (p u) (pos (g u) -ℤ pos (l u)))
 -- the market over all weeks, pair by pair
 module _ (P : Plant) (x : Plan) where
   pub sales-by-pair : sumBelow (P .weeks) (revenueIn P x)
-      ≡ sumBelow (P .customers * P .products) (λ k. P .price (k / P .products) (k % P .products) * sumBelow (P .weeks) (x .sales (k / P .products) (k % P .products)))
+      ≡ sumBelow (P .customers * P .products) (λ k.
+      P .price (k / P .products) (k % P .products) * sumBelow (P .weeks) (x .sales (k / P .products) (k % P .products)))
   unfolding revenueIn
   sales-by-pair = sum-priced (P .weeks) (P .customers) (P .products) (P .price) (x .sales)
 
   pub backlog-by-pair : sumBelow (P .weeks) (backlogChargeIn P x)
-      ≡ sumBelow (P .customers * P .products) (λ k. P .backlogCost (k / P .products) (k % P .products) * sumBelow (P .weeks) (x .backlog (k / P .products) (k % P .products)))
+      ≡ sumBelow (P .customers * P .products) (λ k.
+      P .backlogCost (k / P .products) (k % P .products) * sumBelow (P .weeks) (x .backlog (k / P .products) (k % P .products)))
   unfolding backlogChargeIn
   backlog-by-pair = sum-priced (P .weeks) (P .customers) (P .products) (P .backlogCost) (x .backlog)

@@ -479,7 +479,8 @@ fn week_fits(plant: &[u8], plan: &[u8], f: Shape, week: usize) -> bool
 // 38 of a pair (customer times the count of products, plus product) in all weeks.
 fn backlog_over(plant: &[u8], plan: &[u8], f: Shape, pair: usize) -> bool
     requires { ⌜ (plantForm (now plant) ≡ Good f) × (planForm f (now plan) ≡ Good f) × (pair < f .customers * f .products) ⌝ }
-    ensures { λ r. ⌜ r ≡ allBelow (f .weeks) (backlogAt (plantOf f (now (plant .entry))) (planOf f (now (plan .entry))) (pair / f .products) (pair % f .products)) ⌝ }
+    ensures { λ r. ⌜ r ≡ allBelow (f .weeks)
+        (backlogAt (plantOf f (now (plant .entry))) (planOf f (now (plan .entry))) (pair / f .products) (pair % f .products)) ⌝ }
 {
     let weeks = as_usize(f.weeks);
     let mut before = plant_file::pair_opening_backlog(plant, f, pair);

@@ -98,7 +98,9 @@ module _ (f : Shape) (x : Slots) where
     -- ---- sections 41 and 42
     count-at : (w : ℕ) → w < f .weeks → slotCount F w ≡ count w
     unfolding slotCount slotBodies
-    count-at w l = section-at 1 F 0 (f .weeks) count (extents 0 (omega arith) ∙ sym (one-row 1 (f .weeks))) (body 0 (omega arith)) w l (omega (arith, count-byte w l))
+    count-at w l =
+        section-at 1 F 0 (f .weeks) count (extents 0 (omega arith) ∙ sym (one-row 1 (f .weeks))) (body 0 (omega arith)) w l
+        (omega (arith, count-byte w l))
 
     before-at : (w : ℕ) → w ≤ f .weeks → slotsBefore F w ≡ sumBelow w count
     unfolding slotsBefore

@@ -36,7 +36,9 @@ is-binary-spec =
     (λ c κs. holds _ (c .before .before .before .pre) _ (omega arith) width1 refl (c .before .area .ensures .0))
     (λ c κs. let k = c .before in holds _ (k .before .before .before .pre) _ (omega arith) width1 refl (k .before .area .ensures .0))
     (λ c κs. let k = c .before .before in holds _ (k .before .before .before .pre) _ (omega arith) width1 refl (k .before .area .ensures .0))
-    (λ c κs. let k = c .before .before .before in holds _ (k .before .before .before .pre) _ (omega arith) width1 (sym (table-rows 1 _ _ _)) (k .volume .ensures .0))
-    (λ c κs. let k = c .before .before .before .before in holds _ (k .before .before .before .pre) _ (omega arith) width1 (sym (table-rows 1 _ _ _)) (k .volume .ensures .0))
+    (λ c κs. let k = c .before .before .before in
+    holds _ (k .before .before .before .pre) _ (omega arith) width1 (sym (table-rows 1 _ _ _)) (k .volume .ensures .0))
+    (λ c κs. let k = c .before .before .before .before in
+    holds _ (k .before .before .before .pre) _ (omega arith) width1 (sym (table-rows 1 _ _ _)) (k .volume .ensures .0))
     (λ c κs. search needs) (λ c κs. search needs) (λ c κs. search needs) (λ c κs. search needs)
     returns)

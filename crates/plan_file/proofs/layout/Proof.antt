@@ -42,8 +42,12 @@ returns-3 c =
 returns-4 : tie.Need-returns-4
 returns-4 c =
     let n = c .before .before .before .before .before in
-    let e = c .grams .ensures in
-    (rw (c .before .if4 .taken) (e ∙ rw (n .as-usize2 .ensures .0, n .before .as-usize .ensures .0)), rw e (omega arith), rw e (omega arith), rw e (omega arith))
+    let e = c .grams .ensures in (
+      rw (c .before .if4 .taken) (e ∙ rw (n .as-usize2 .ensures .0, n .before .as-usize .ensures .0)),
+      rw e (omega arith),
+      rw e (omega arith),
+      rw e (omega arith),
+    )
 
 returns-5 : tie.Need-returns-5
 returns-5 c =
@@ -58,8 +62,12 @@ returns-5 c =
 returns-6 : tie.Need-returns-6
 returns-6 c =
     let n = c .before .before .before .before .before .before .before in
-    let e = c .grams3 .ensures in
-    (rw (c .before .if6 .taken) (e ∙ rw (n .as-usize2 .ensures .0, n .before .as-usize .ensures .0)), rw e (omega arith), rw e (omega arith), rw e (omega arith))
+    let e = c .grams3 .ensures in (
+      rw (c .before .if6 .taken) (e ∙ rw (n .as-usize2 .ensures .0, n .before .as-usize .ensures .0)),
+      rw e (omega arith),
+      rw e (omega arith),
+      rw e (omega arith),
+    )
 
 returns-7 : tie.Need-returns-7
 returns-7 c =

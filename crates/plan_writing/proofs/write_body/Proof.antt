@@ -63,7 +63,8 @@ write-line-requires : tie.Need-write-line-requires
 write-line-requires c κs =
     let d = c .before in
     let s = d .before .before .before .before .before .before .before in
-    (s .pre .0, less (less (less (less (s .pre .2) (d .if4 .left)) (d .before .if3 .left)) (d .before .before .if2 .left)) (d .before .before .before .if1 .left), s .pre .3)
+    let below = less (less (s .pre .2) (d .if4 .left)) (d .before .if3 .left) in
+    (s .pre .0, less (less below (d .before .before .if2 .left)) (d .before .before .before .if1 .left), s .pre .3)
   where
     less : {n p : ℕ} → p < n + 1 → p ≢ n → p < n
     less l d = omega arith

@@ -1,4 +1,5 @@
--- `plan_writing::write_inventory` meets its contract: the loop has stored the weeks below `week`, and `inventory` is what is in store before it. Assumes nothing.
+-- `plan_writing::write_inventory` meets its contract: the loop has stored the weeks below `week`, and `inventory` is that before it.
+-- Assumes nothing.
 use borrow.Author.Needs.{needs}
 use native.Mathlib.Omega.{arith}
 use native.Mathlib.Nat.{mul-comm, mul-assoc}
@@ -172,7 +173,8 @@ loop-again q =
       omega (arith, e c .loop-test .taken),
       rw step (omega (arith, b .inv .1, size-is (e c))),
       search needs,
-      row-stored 4 (N (s c)) (x (s c) .inventory) (s c .args .out .now) (b .out) _ (b .week) (b .p) (b .inv .3) (b .inv .1) (omega (arith, next-fits (e c))) stored,
+      row-stored 4 (N (s c)) (x (s c) .inventory) (s c .args .out .now) (b .out) _ (b .week) (b .p) (b .inv .3) (b .inv .1)
+          (omega (arith, next-fits (e c))) stored,
       q .next-row .ensures .0,
       q .next-row .ensures .1 ∙ ap (λ (w : ℕ). w + 1) (b .inv .5),
       search needs,

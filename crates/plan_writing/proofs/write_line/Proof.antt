@@ -195,7 +195,8 @@ returns q =
     let rows = joinBelow (b .week) (λ q. encode width (section a .columns) (rowIn f (x a) place q)) in
     let whole : length rows ≡ total h =
     rows-length width (section a .columns) (b .week) (rowIn f (x a) place)
-    ∙ ((λ u. last u * (width * sym (columns-is (laid (counted h))) u)) ∙ mul-comm (counted h .as-usize .result) (width * laid (counted h) .layout .result .columns)) in
+    ∙ ((λ u. last u * (width * sym (columns-is (laid (counted h))) u))
+    ∙ mul-comm (counted h .as-usize .result) (width * laid (counted h) .layout .result .columns)) in
     b .inv .3
     ∙ (ap (λ (l : List ℕ). store l 0 rows) (h .before .before .before .before .clear .ensures)
     ∙ (over-zeros (total h) (a .args .out .now) (fits (counted h)) rows whole

@@ -41,13 +41,15 @@ loop-holds c =
 -- what the arc takes
 minutes-taken : (c : tie.After-charged Inv-loop μ-loop) → let a = c .before .before .before .before .before .before .before .before .args in
     c .charged .result .minutes .0
-    ≡ taken (a .f .products) (plantOf (a .f) (a .plant .now) .line .changeoverMinutes) (changeoverTableOf (a .table) (planOf (a .f) (a .plan .now) .line) (a .week))
+    ≡ taken (a .f .products) (plantOf (a .f) (a .plant .now) .line .changeoverMinutes)
+    (changeoverTableOf (a .table) (planOf (a .f) (a .plan .now) .line) (a .week))
     (c .before .before .before .before .loop .arc)
 minutes-taken c = c .charged .ensures .0 ∙ (λ u. c .before .before .arc-changeover .ensures .0 u * c .before .changeover .ensures .minutes u)
 
 cents-taken : (c : tie.After-charged Inv-loop μ-loop) → let a = c .before .before .before .before .before .before .before .before .args in
     c .charged .result .cents .0
-    ≡ taken (a .f .products) (plantOf (a .f) (a .plant .now) .line .changeoverCents) (changeoverTableOf (a .table) (planOf (a .f) (a .plan .now) .line) (a .week))
+    ≡ taken (a .f .products) (plantOf (a .f) (a .plant .now) .line .changeoverCents)
+    (changeoverTableOf (a .table) (planOf (a .f) (a .plan .now) .line) (a .week))
     (c .before .before .before .before .loop .arc)
 cents-taken c = c .charged .ensures .1 ∙ (λ u. c .before .before .arc-changeover .ensures .0 u * c .before .changeover .ensures .cents u)
 

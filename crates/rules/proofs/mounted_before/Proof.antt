@@ -18,4 +18,6 @@ returns-2 c =
     rw (mounted-later _ _ _ _ h) (search needs)
 
 pub mounted-before-spec : {M : Type 1} → statement M
-mounted-before-spec = tie.close (tie.spec (λ c κs. c .before .before .before .pre .0 .plant) (λ c κs. search needs) returns (λ c. search needs) (λ c κs. search needs) returns-2)
+mounted-before-spec =
+    tie.close
+    (tie.spec (λ c κs. c .before .before .before .pre .0 .plant) (λ c κs. search needs) returns (λ c. search needs) (λ c κs. search needs) returns-2)

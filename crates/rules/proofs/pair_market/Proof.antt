@@ -63,4 +63,5 @@ pair-market-spec =
     tie.close
     (tie.spec Inv-loop μ-loop (λ c κs. search needs) loop-holds (λ c κs. search needs) (λ c. search needs) (λ c κs. search needs)
     (λ c. search needs) (λ c. search needs) (λ c. search needs) loop-again (λ c κs. search needs) (λ c κs. search needs)
-    (λ c κs. (search needs, omega (arith, c .before .before .before .loop .inv))) (λ c κs. (search needs, omega (arith, c .before .before .before .before .loop .inv))) returns)
+    (λ c κs. (search needs, omega (arith, c .before .before .before .loop .inv)))
+    (λ c κs. (search needs, omega (arith, c .before .before .before .before .loop .inv))) returns)

@@ -67,6 +67,7 @@ returns-10 c =
 pub rule-in-spec : {M : Type 1} → statement M
 rule-in-spec =
     tie.close
-    (tie.spec (λ c κs. search needs) (λ c κs. (search needs, search needs, few (c .before .before .before))) (λ c κs. (search needs, few (c .before .before .before))) (λ c κs. search needs) (λ c κs. search needs)
+    (tie.spec (λ c κs. search needs) (λ c κs. (search needs, search needs, few (c .before .before .before)))
+    (λ c κs. (search needs, few (c .before .before .before))) (λ c κs. search needs) (λ c κs. search needs)
     (λ c κs. search needs) (λ c κs. search needs) (λ c κs. search needs) (λ c κs. search needs)
     returns returns-2 returns-3 returns-4 returns-5 returns-6 returns-7 returns-8 returns-9 returns-10)

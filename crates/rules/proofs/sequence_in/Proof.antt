@@ -35,4 +35,5 @@ pub sequence-in-spec : {M : Type 1} → statement M
 sequence-in-spec =
     tie.close
     (tie.spec Inv-loop μ-loop (λ c κs. search needs) (λ c κs. search needs) (λ c. search needs) (λ c. omega arith) (λ c. omega arith)
-    (λ c κs. search needs) (λ c κs. search needs) (λ c. search needs) (λ c. search needs) (λ c. (search needs, rw add-one (c .and .ensures ∙ (λ u. c .before .before .before .loop .inv .1 u && c .before .sequence-at .ensures u)))) returns)
+    (λ c κs. search needs) (λ c κs. search needs) (λ c. search needs) (λ c. search needs)
+    (λ c. (search needs, rw add-one (c .and .ensures ∙ (λ u. c .before .before .before .loop .inv .1 u && c .before .sequence-at .ensures u)))) returns)

@@ -10,7 +10,8 @@ use Rattle.sections.proofs.pair_row.Statement.{statement}
 use Rattle.sections.proofs.pair_row.Tie as tie
 
 -- the pairs before this one are some of all
-before-most : (c : tie.After-as-usize) → let a = c .before .before .before .args in a .pair * c .as-usize .result ≤ a .f .customers * a .f .products * a .f .weeks
+before-most : (c : tie.After-as-usize) → let a = c .before .before .before .args in
+    a .pair * c .as-usize .result ≤ a .f .customers * a .f .products * a .f .weeks
 before-most c =
     let s = c .before .before .before in
     rw (c .as-usize .ensures .0) (mul-le-mul-right (s .args .f .weeks) (omega (arith, s .pre .1)))

@@ -66,7 +66,8 @@ returns c =
     let contents = c17 .write-contents .ensures ∙ ap (store out 0) (contents-stored f plan total (s .pre .1)) in
     let counts = next 0 _ out _ _ contents (c14 .section-start .ensures .0) (sub-write-counts c14) (c9 .before .before .before .write-counts .ensures) in
     let slots = next 1 _ out _ _ counts (c9 .section-start2 .ensures .0) (sub-write-weeks c9) (c4 .before .before .before .write-weeks .ensures) in
-    let sales = next 2 _ out _ _ slots (c4 .section-start3 .ensures .0) (sub-write-sales c4) (c .before .before .write-sales .ensures ∙ ap (store _ 0) (sales-body f plan)) in
+    let sales = next 2 _ out _ _ slots (c4 .section-start3 .ensures .0) (sub-write-sales c4)
+    (c .before .before .write-sales .ensures ∙ ap (store _ 0) (sales-body f plan)) in
     sales ∙ ap (store out 0) (file-stored f plan)
 
 pub write-file-spec : {M : Type 1} → statement M

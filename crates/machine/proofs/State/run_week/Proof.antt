@@ -14,7 +14,9 @@ use Rattle.machine.proofs.State.run_week.Tie as tie
 
 -- what the slots gave back
 ran : (c : tie.After-run-slots) → let a = c .before .before .before .before .args in
-    c .run-slots .result ≡ runSlots (plantOf (a .f) (a .plant .now)) (plantOf (a .f) (a .plant .now) .line) (slotsOf (a .f) (a .slots .now) .line .week (a .week)) (weekBegin (a .self))
+    c .run-slots .result
+    ≡ runSlots (plantOf (a .f) (a .plant .now)) (plantOf (a .f) (a .plant .now) .line) (slotsOf (a .f) (a .slots .now) .line .week (a .week))
+    (weekBegin (a .self))
 ran c =
     let a = c .before .before .before .before .args in
     let slots = slotsOf (a .f) (a .slots .now) .line .week (a .week) in

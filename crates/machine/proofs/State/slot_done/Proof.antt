@@ -35,7 +35,13 @@ returns c =
     let made = clocked .before .before .before .before in
     let over = made .before .before in
     let start = c .before .before .before .before .before .before .before .before .before .before .before .before in
-    rw (shifted start, ← (clocked .clock-after .ensures), ← (over .changeover-to .ensures .cents), ← (c .before .before .in-thousandths .ensures), ← (c .before .pay .ensures .0))
+    rw (
+      shifted start,
+      ← (clocked .clock-after .ensures),
+      ← (over .changeover-to .ensures .cents),
+      ← (c .before .before .in-thousandths .ensures),
+      ← (c .before .pay .ensures .0),
+    )
     (rw (← (made .before .rate .ensures .0), ← (made .produced .ensures .0)))
 
 pub slot-done-spec : {M : Type 1} → statement M

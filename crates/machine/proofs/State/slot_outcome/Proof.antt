@@ -42,7 +42,8 @@ module _ (c : tie.After-week-minutes) where
   abbrev slot : Slot
   slot = record { product = start .args .product; minutes = start .args .time .0 }
 
-  clock-left : firstMet (slotStops P (P .line) slot (start .args .self)) ≡ firstMet (stop 36 (ltb (P .weekMinutes) (clockAfter (P .line) slot (start .args .self))) ∷ [])
+  clock-left : firstMet (slotStops P (P .line) slot (start .args .self))
+      ≡ firstMet (stop 36 (ltb (P .weekMinutes) (clockAfter (P .line) slot (start .args .self))) ∷ [])
   unfolding slotStops
   clock-left =
       rw (

@@ -42,8 +42,8 @@ impl fmt::Display for Refusal {
                  file"
             }
             24 => {
-                "a week has no slot or more slots than products, or a slot's product is not one \
-                 of the plant's"
+                "a week has more slots than products, or a slot's product is not one of the \
+                 plant's"
             }
             _ => "its number is not one of a plant or slot file's form",
         };
@@ -164,7 +164,7 @@ pub fn decode_slots(sizes: Sizes, file: &[u8]) -> Result<Slots, Refusal> {
         [sizes.weeks, 3 * count_of_slots, 4 * sizes.customers * sizes.products * sizes.weeks];
     refuse_unless(have_lengths(&bodies, &lengths), Refusal(23))?;
 
-    let counted = counts.iter().all(|&count| (1..=sizes.products).contains(&count.into()));
+    let counted = counts.iter().all(|&count| usize::from(count) <= sizes.products);
     refuse_unless(counted, Refusal(24))?;
     let mut later = bodies[1].chunks_exact(3);
     let weeks: Vec<Vec<Slot>> = counts

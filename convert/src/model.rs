@@ -78,7 +78,7 @@ pub struct Slot {
 
 #[derive(Clone, Debug, PartialEq, Eq)]
 pub struct Slots {
-    /// The slots of each week, in running order.
+    /// The slots of each week, in running order; none in a shut week.
     pub weeks: Vec<Vec<Slot>>,
     /// Grams sold, by customer, product and week.
     pub sales: Vec<u32>,

@@ -1,5 +1,5 @@
 //! The text of a plant's slots: week by week what runs, in running order, and
-//! what is sold.
+//! what is sold. A week without runs is shut.
 
 use std::fmt::Write;
 
@@ -135,23 +135,11 @@ impl Reader<'_> {
     }
 
     fn tell_missing(&self, last: usize, faults: &mut Vec<Fault>) {
-        for (week, slots) in self.weeks.iter().enumerate() {
+        let weeks = self.sizes.weeks;
+        for week in (0..weeks).filter(|&week| self.week_lines.get(week).is_none()) {
             let number = week + 1;
-            match self.week_lines.get(week) {
-                None => {
-                    let weeks = self.sizes.weeks;
-                    let message =
-                        format!("week {number} is missing; expected the plant's {weeks} weeks");
-                    faults.push(Fault { line: last, message });
-                }
-                Some(given) if slots.is_empty() => {
-                    let message = format!(
-                        "week {number} has no run; expected a line: run PRODUCT NUMBER minutes"
-                    );
-                    faults.push(Fault { line: given.line, message });
-                }
-                Some(_) => {}
-            }
+            let message = format!("week {number} is missing; expected the plant's {weeks} weeks");
+            faults.push(Fault { line: last, message });
         }
     }
 

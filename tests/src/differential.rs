@@ -9,7 +9,7 @@ use crate::layout::Parts;
 use crate::model::{Kind, Plan, Plant, Refusal, Sizes, Slots};
 use crate::mutants;
 use crate::random::Random;
-use crate::scenario::{self, Scenario};
+use crate::scenario::{self, Scenario, SHUT_WEEKS};
 use crate::{following, library, machine, reference};
 
 /// The three calls.
@@ -41,6 +41,8 @@ pub struct Counts {
     by_number: BTreeMap<(Refusal, Call), u64>,
     /// Sizes with which a plan passed.
     passed: Vec<Sizes>,
+    /// How often a plan with such shut weeks passed.
+    passed_shut: [u64; SHUT_WEEKS.len()],
 }
 
 impl Counts {
@@ -58,14 +60,22 @@ impl Counts {
         self.passed.iter().any(|&sizes| wanted(sizes))
     }
 
+    /// How often a plan passed with weeks shut in each way.
+    pub fn passed_shut(&self) -> impl Iterator<Item = (&'static str, u64)> + '_ {
+        SHUT_WEEKS.iter().zip(self.passed_shut).map(|(&(name, _), count)| (name, count))
+    }
+
     fn add(&mut self, call: Call, number: Refusal) {
         self.cases += 1;
         *self.by_number.entry((number, call)).or_default() += 1;
     }
 
-    fn add_passed(&mut self, sizes: Sizes) {
+    fn add_passed(&mut self, sizes: Sizes, slots: &Slots) {
         if !self.passed.contains(&sizes) {
             self.passed.push(sizes);
+        }
+        for ((_, are_shut), count) in SHUT_WEEKS.iter().zip(&mut self.passed_shut) {
+            *count += u64::from(are_shut(slots));
         }
     }
 }
@@ -152,7 +162,7 @@ pub fn run_scenario(seed: u64, counts: &mut Counts) -> Result<(), Box<Difference
     let plan = following::plan(&plant, &slots);
     if let Ok(run) = machine::run(&plant, &slots) {
         assert_eq!(run, plan, "the tables that follow are those of the run");
-        counts.add_passed(sizes);
+        counts.add_passed(sizes, &slots);
     }
     let mut comparison = Comparison { seed, random, counts };
     comparison.compare_plan(&plant.encode(), &plan.encode())?;

@@ -1,4 +1,4 @@
-//! P1 to P12: the small plant and changes to it, as README.md lists them, each
+//! P1 to P13: the small plant and changes to it, as README.md lists them, each
 //! with its answer. The other tables and the profit follow each change.
 
 use crate::following;
@@ -6,13 +6,15 @@ use crate::model::{Plan, Plant, Refusal, Sizes, Slots, Storage};
 use crate::samples::Sample;
 use crate::small;
 
-/// One of P1 to P12.
+/// One of P1 to P13.
 #[derive(Clone, Debug)]
 pub struct Fact {
     pub number: u8,
     pub plant: Plant,
     pub plan: Plan,
-    /// The profit, or the refusal.
+    /// The slots that the plan follows from, if it does from any.
+    pub slots: Option<Slots>,
+    /// The profit, or the refusal: of the plan, and of the run of its slots.
     pub answer: Result<i64, Refusal>,
     /// What `planreport` prints.
     pub text: &'static str,
@@ -66,6 +68,7 @@ pub fn all() -> Vec<Fact> {
             number: 2,
             plant: small::plant(),
             plan: Plan { profit: 8_650_001, ..small::plan() },
+            slots: None,
             answer: Err(41),
             text: "refused 41\n",
         },
@@ -98,12 +101,23 @@ passed 8346000
         fact(7, Err(36), "refused 36\n", |_, slots| slots.slots[1].minutes = 5041),
         fact(8, Err(39), "refused 39\n", |_, slots| slots.sales[3] = 150_001),
         fact(9, Err(38), "refused 38\n", |_, slots| slots.sales[0] = 400_001),
-        fact(10, Err(31), "refused 31\n", |_, slots| {
-            slots.counts[1] = 0;
-            slots.slots.truncate(2);
-        }),
+        fact(10, Err(39), "refused 39\n", |_, slots| shut_second_week(slots)),
         fact(11, Ok(8_650_000), SMALL_TEXT, |plant, _| plant.storage[0].greatest = 100_000),
         fact(12, Err(40), "refused 40\n", |plant, _| plant.storage[0].greatest = 99_999),
+        fact(
+            13,
+            Ok(4_500_000),
+            "\
+passed 4500000
+1 0 0 0 5000
+1 1 40 5040 7040
+",
+            |_, slots| {
+                shut_second_week(slots);
+                slots.sales[1] = 100_000;
+                slots.sales[3] = 0;
+            },
+        ),
     ]
 }
 
@@ -117,12 +131,17 @@ fn fact(
     let (mut plant, mut slots) = (small::plant(), small::slots());
     change(&mut plant, &mut slots);
     let plan = following::plan(&plant, &slots);
-    Fact { number, plant, plan, answer, text }
+    Fact { number, plant, plan, slots: Some(slots), answer, text }
 }
 
 fn set_second_run_of_b(slots: &mut Slots, minutes: u16, sale: u32) {
     slots.slots[2].minutes = minutes;
     slots.sales[3] = sale;
+}
+
+fn shut_second_week(slots: &mut Slots) {
+    slots.counts[1] = 0;
+    slots.slots.truncate(2);
 }
 
 /// P3: one week of three products, C with B's numbers and no changeover to or
@@ -150,5 +169,5 @@ fn lone_ring() -> Fact {
     plan.changeovers[sizes.week_from_to(0, 1, 2)] = 1;
     plan.changeovers[sizes.week_from_to(0, 2, 1)] = 1;
     plan.places = vec![1, 2, 3];
-    Fact { number: 3, plant, plan, answer: Err(34), text: "refused 34\n" }
+    Fact { number: 3, plant, plan, slots: None, answer: Err(34), text: "refused 34\n" }
 }

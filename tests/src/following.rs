@@ -46,8 +46,9 @@ fn fill_runs(sizes: Sizes, plan: &mut Plan, slots: &Slots) {
             if let Some(before) = last_before {
                 plan.opening_changeovers[sizes.week_from_to(week, before, first)] = 1;
             }
+            // A shut week leaves it as it was.
+            last_before = Some(last);
         }
-        last_before = products.last().copied();
     }
 }
 

@@ -112,7 +112,7 @@ pub fn read_slots(plant: &Plant, file: &[u8]) -> Result<Slots, Refusal> {
             .collect(),
         sales: fours(bodies[2]),
     };
-    let counted = slots.counts.iter().all(|&count| (1..=products).contains(&count.into()));
+    let counted = slots.counts.iter().all(|&count| usize::from(count) <= products);
     let known = slots.slots.iter().all(|slot| usize::from(slot.product) < products);
     refuse_unless(counted && known, 24)?;
     Ok(slots)

@@ -18,7 +18,7 @@
 //! - [`small`]: the small plant.
 //! - [`samples`]: right and damaged files with their refusals.
 //! - [`following`]: the tables that follow from slots, whether or not they pass.
-//! - [`facts`]: P1 to P12, the changes to the small plant.
+//! - [`facts`]: P1 to P13, the changes to the small plant.
 //! - [`scenario`]: random plants, with slots that mostly run; [`random`] numbers.
 //! - [`mutants`]: changes to right files, and damage.
 //! - [`differential`]: the two implementations compared, call by call.

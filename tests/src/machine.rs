@@ -132,7 +132,8 @@ pub fn run(plant: &Plant, slots: &Slots) -> Result<Plan, Refusal> {
     Ok(plan)
 }
 
-/// Fills E, F, L, Z, ZF, O, T and P of a week that began with `mounted`.
+/// Fills E, F, L, Z, ZF, O, T and P of a week that began with `mounted`. A shut
+/// week has none of them.
 fn record_slots(plan: &mut Plan, plant: &Plant, week: usize, mounted: Option<usize>, row: &[Slot]) {
     let sizes = plant.sizes;
     let mut before = None;

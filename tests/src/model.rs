@@ -1,6 +1,7 @@
 //! The numbers of plants, plans and slot files, in the order of the files.
 
 use std::fmt;
+use std::ops::Range;
 
 /// A number of the refusal table: the row that turns a file or run down.
 pub type Refusal = u32;
@@ -63,6 +64,16 @@ impl Sizes {
     pub fn week_from_to(&self, week: usize, from: usize, to: usize) -> usize {
         week * self.products * self.products + self.from_to(from, to)
     }
+
+    /// A week's places in a table by week and product.
+    pub fn week_row(&self, week: usize) -> Range<usize> {
+        self.week_product(week, 0)..self.week_product(week + 1, 0)
+    }
+
+    /// A week's places in a table by week, product from and product to.
+    pub fn week_square(&self, week: usize) -> Range<usize> {
+        self.week_from_to(week, 0, 0)..self.week_from_to(week + 1, 0, 0)
+    }
 }
 
 /// The limits of a product's inventory, in grams.
@@ -109,8 +120,8 @@ pub struct Plan {
     pub last: Vec<u8>,
     /// Z: 1 for neighbours within the week, by week, product from and product to.
     pub changeovers: Vec<u8>,
-    /// ZF: 1 from the last product of the week before to the first of this one,
-    /// by week, product from and product to.
+    /// ZF: 1 from the last product of the producing week before to the first of
+    /// this one, by week, product from and product to.
     pub opening_changeovers: Vec<u8>,
     /// O: the place in the week from 1, or 0, by week and product.
     pub places: Vec<u8>,
@@ -149,6 +160,14 @@ impl Plan {
             profit: 0,
         }
     }
+
+    /// Whether a week is shut: it has no E, F or L. Any other is a producing week.
+    pub fn is_shut(&self, sizes: Sizes, week: usize) -> bool {
+        let mut marks = [&self.ran, &self.first, &self.last]
+            .into_iter()
+            .flat_map(|marks| &marks[sizes.week_row(week)]);
+        marks.all(|&mark| mark == 0)
+    }
 }
 
 /// One run of one product.
@@ -160,7 +179,7 @@ pub struct Slot {
 
 #[derive(Clone, Debug, PartialEq, Eq)]
 pub struct Slots {
-    /// Slots in each week.
+    /// Slots in each week, 0 in a shut one.
     pub counts: Vec<u8>,
     /// The slots of all weeks, in running order.
     pub slots: Vec<Slot>,

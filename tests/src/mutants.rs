@@ -7,6 +7,7 @@ mod files;
 mod orders;
 mod plans;
 mod plants;
+mod shut_weeks;
 mod slots;
 
 use crate::layout::Parts;

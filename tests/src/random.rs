@@ -24,6 +24,16 @@ impl Random {
         (self.number() % count as u64) as usize
     }
 
+    /// One of the numbers below `count` that are wanted, if there is one.
+    pub fn below_where(
+        &mut self,
+        count: usize,
+        wanted: impl FnMut(&usize) -> bool,
+    ) -> Option<usize> {
+        let numbers: Vec<usize> = (0..count).filter(wanted).collect();
+        (!numbers.is_empty()).then(|| self.pick(&numbers))
+    }
+
     /// A number from `least` to `greatest`.
     pub fn between(&mut self, least: u64, greatest: u64) -> u64 {
         least + self.number() % (greatest - least + 1)

@@ -28,7 +28,7 @@ fn schedule(plant: &[u8], plan: &[u8]) -> String {
 }
 
 /// One line for each slot in running order: week from 1, product, changeover
-/// minutes, start and end of the run.
+/// minutes, start and end of the run. A shut week has no line.
 fn slot_lines(plant: &Plant, plan: &Plan) -> Vec<String> {
     let mut lines = Vec::new();
     // The line keeps the product mounted from week to week.

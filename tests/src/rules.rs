@@ -25,7 +25,8 @@ pub fn first_broken(plant: &Plant, plan: &Plan) -> Option<Refusal> {
     RULES.iter().find(|(_, is_met)| !is_met(plant, plan)).map(|&(number, _)| number)
 }
 
-/// Row 31: each week has one first and one last product, each of which ran.
+/// Row 31: each producing week has one first and one last product, each of
+/// which ran.
 pub fn one_first_and_one_last(plant: &Plant, plan: &Plan) -> bool {
     let sizes = plant.sizes;
     let one_that_ran = |marks: &[u8], week| {
@@ -33,7 +34,10 @@ pub fn one_first_and_one_last(plant: &Plant, plan: &Plan) -> bool {
             week_products(sizes, week).filter(|&place| marks[place] != 0).collect();
         matches!(marked[..], [place] if plan.ran[place] == 1)
     };
-    (0..sizes.weeks).all(|week| one_that_ran(&plan.first, week) && one_that_ran(&plan.last, week))
+    (0..sizes.weeks).all(|week| {
+        plan.is_shut(sizes, week)
+            || (one_that_ran(&plan.first, week) && one_that_ran(&plan.last, week))
+    })
 }
 
 /// Row 32: within the week no product changes to itself, every run but the
@@ -52,21 +56,26 @@ pub fn changeovers_join_runs(plant: &Plant, plan: &Plan) -> bool {
     })
 }
 
-/// Row 33: no changeover opens week 0; each later week opens with one from the
-/// last product of the week before to its own first.
+/// Row 33: a producing week opens with one changeover from the last product of
+/// the producing week before, however many shut weeks lie between, to its own
+/// first. None opens a shut week or the first producing week.
 pub fn opening_changeovers_join_weeks(plant: &Plant, plan: &Plan) -> bool {
     let sizes = plant.sizes;
     let marks = &plan.opening_changeovers;
-    week_and_product(sizes).all(|(week, product)| {
-        let (into, out_of) = match week {
-            0 => (0, 0),
-            _ => (
-                plan.first[sizes.week_product(week, product)],
-                plan.last[sizes.week_product(week - 1, product)],
-            ),
-        };
-        sum_into(sizes, marks, week, product) == i64::from(into)
-            && sum_out_of(sizes, marks, week, product) == i64::from(out_of)
+    let is_producing = |week: &usize| !plan.is_shut(sizes, *week);
+    (0..sizes.weeks).all(|week| {
+        let before = (0..week).rev().find(is_producing).filter(|_| is_producing(&week));
+        (0..sizes.products).all(|product| {
+            let (into, out_of) = match before {
+                None => (0, 0),
+                Some(before) => (
+                    plan.first[sizes.week_product(week, product)],
+                    plan.last[sizes.week_product(before, product)],
+                ),
+            };
+            sum_into(sizes, marks, week, product) == i64::from(into)
+                && sum_out_of(sizes, marks, week, product) == i64::from(out_of)
+        })
     })
 }
 

@@ -118,6 +118,14 @@ pub fn slots() -> Vec<Sample> {
     let mut samples = vec![whole(Kind::Slots, file.clone())];
     let mut add = |number, what, bytes| samples.push(sample(Kind::Slots, number, what, bytes));
 
+    let mut shut = right.clone();
+    shut.counts[1] = 0;
+    shut.slots.truncate(2);
+    add(0, "shut-week", shut.encode());
+    shut.counts[0] = 0;
+    shut.slots.clear();
+    add(0, "shut-weeks", shut.encode());
+
     add(21, "empty", Vec::new());
     add(21, "short", file[..parts.contents_end() - 1].to_vec());
     add(21, "kind", changed(&parts, |parts| parts.kind = Kind::Plan.byte()).bytes());
@@ -127,12 +135,9 @@ pub fn slots() -> Vec<Sample> {
 
     add(23, "contents-only", Parts::new(Kind::Slots, 41, &vec![Vec::new(); 3]).bytes());
     add(23, "sum", changed(&right, |slots| slots.counts[1] = 1).encode());
+    add(23, "shut-week", changed(&right, |slots| slots.counts[1] = 0).encode());
     add(23, "sum-and-count", changed(&right, |slots| slots.counts[1] = 3).encode());
 
-    let mut no_slot = right.clone();
-    no_slot.counts[1] = 0;
-    no_slot.slots.truncate(2);
-    add(24, "no-slot", no_slot.encode());
     let mut count = right.clone();
     count.counts[1] = 3;
     count.slots.push(Slot { product: 1, minutes: 300 });

@@ -1,5 +1,5 @@
 //! Random plants of every size, each with slots and sales that mostly run
-//! without a stop.
+//! without a stop. In a third of them weeks are shut.
 
 use std::ops::RangeInclusive;
 
@@ -22,9 +22,15 @@ pub struct Scenario {
 impl Scenario {
     pub fn new(random: &mut Random, sizes: Sizes) -> Scenario {
         let mut plant = plant(random, sizes);
+        let shut = shut_weeks(random, sizes.weeks);
         let mut schedule = Schedule::new(&plant);
-        for week in 0..sizes.weeks {
-            schedule.add_week(random, week);
+        for (week, is_shut) in shut.into_iter().enumerate() {
+            if is_shut {
+                schedule.slots.counts.push(0);
+            } else {
+                schedule.add_slots(random);
+            }
+            schedule.sell(random, week);
         }
         let Schedule { slots, least_inventory, greatest_inventory, .. } = schedule;
         plant.storage = least_inventory
@@ -34,6 +40,68 @@ impl Scenario {
             .collect();
         Scenario { plant, slots }
     }
+}
+
+/// Whether weeks of a slot file are shut in some way.
+pub type ShutWeeks = fn(&Slots) -> bool;
+
+/// The ways: which weeks are shut, what is made before and after, and sales.
+pub const SHUT_WEEKS: [(&str, ShutWeeks); 8] = [
+    ("the first week and not all", |slots| {
+        slots.counts[0] == 0 && !producing_weeks(slots).is_empty()
+    }),
+    ("the last week and not all", |slots| {
+        slots.counts.last() == Some(&0) && !producing_weeks(slots).is_empty()
+    }),
+    ("one between producing weeks", |slots| {
+        passages(slots).iter().any(|passage| passage.shut == 1)
+    }),
+    ("several in a row between producing weeks", |slots| {
+        passages(slots).iter().any(|passage| passage.shut > 1)
+    }),
+    ("all of several weeks", |slots| slots.counts.len() > 1 && producing_weeks(slots).is_empty()),
+    ("between runs of one product", |slots| {
+        passages(slots).iter().any(|passage| passage.shut > 0 && passage.from == passage.to)
+    }),
+    ("between runs of two products", |slots| {
+        passages(slots).iter().any(|passage| passage.shut > 0 && passage.from != passage.to)
+    }),
+    ("with sales", |slots| {
+        let weeks = slots.counts.len();
+        slots.sales.iter().enumerate().any(|(place, &sale)| {
+            let week = place % weeks;
+            slots.counts[week] == 0 && sale > 0
+        })
+    }),
+];
+
+/// From one producing week to the next.
+struct Passage {
+    /// The shut weeks between them.
+    shut: usize,
+    /// The last product of the one.
+    from: u8,
+    /// The first product of the other.
+    to: u8,
+}
+
+fn producing_weeks(slots: &Slots) -> Vec<usize> {
+    (0..slots.counts.len()).filter(|&week| slots.counts[week] > 0).collect()
+}
+
+fn passages(slots: &Slots) -> Vec<Passage> {
+    let rows = slots.rows();
+    producing_weeks(slots)
+        .windows(2)
+        .map(|pair| {
+            let (earlier, later) = (&rows[pair[0]], &rows[pair[1]]);
+            Passage {
+                shut: pair[1] - pair[0] - 1,
+                from: earlier[earlier.len() - 1].product,
+                to: later[0].product,
+            }
+        })
+        .collect()
 }
 
 /// Mostly small sizes, and each limit often enough.
@@ -141,6 +209,25 @@ fn plant(random: &mut Random, sizes: Sizes) -> Plant {
     }
 }
 
+/// Which weeks are shut: none in most plants, else some at the beginning, at the
+/// end or between, all of them, or any.
+fn shut_weeks(random: &mut Random, weeks: usize) -> Vec<bool> {
+    let mut shut = vec![false; weeks];
+    match random.below(20) {
+        0 => shut[..=random.below(weeks)].fill(true),
+        1 => shut[random.below(weeks)..].fill(true),
+        2 => shut.fill(true),
+        3..=5 if weeks > 2 => {
+            let start = random.between(1, weeks as u64 - 2) as usize;
+            let end = random.between(start as u64, weeks as u64 - 2) as usize;
+            shut[start..=end].fill(true);
+        }
+        6 | 7 => shut.fill_with(|| random.one_in(3)),
+        _ => {}
+    }
+    shut
+}
+
 /// Limits that hold these numbers, where storage can be so great.
 fn storage(random: &mut Random, least_inventory: u64, greatest_inventory: u64) -> Storage {
     let (least_inventory, greatest_inventory) =
@@ -182,7 +269,8 @@ impl<'plant> Schedule<'plant> {
         }
     }
 
-    fn add_week(&mut self, random: &mut Random, week: usize) {
+    /// Adds the slots of a producing week.
+    fn add_slots(&mut self, random: &mut Random) {
         let mut products: Vec<usize> = (0..self.plant.sizes.products).collect();
         random.shuffle(&mut products);
         let most = random.between(1, products.len() as u64) as usize;
@@ -204,7 +292,6 @@ impl<'plant> Schedule<'plant> {
             count += u8::from(self.add_slot(random, product, &mut clock));
         }
         self.slots.counts.push(count);
-        self.sell(random, week);
     }
 
     /// Adds a slot if the week has room for it.

@@ -1,4 +1,5 @@
-//! The small plant: products A (0) and B (1), one customer, two weeks.
+//! The small plant: products A (0) and B (1), one customer, two weeks; and the
+//! same over four weeks, two of which are shut.
 
 use crate::machine;
 use crate::model::{Plan, Plant, Sizes, Slot, Slots, Storage};
@@ -36,4 +37,30 @@ pub fn slots() -> Slots {
 
 pub fn plan() -> Plan {
     machine::run(&plant(), &slots()).expect("the small plant's run never stops")
+}
+
+/// The small plant over four weeks.
+pub fn long_plant() -> Plant {
+    Plant {
+        sizes: Sizes { products: 2, customers: 1, weeks: 4 },
+        demand: vec![400_000, 100_000, 0, 200_000, 100_000, 0, 0, 0],
+        ..plant()
+    }
+}
+
+/// Slots of the four weeks: A and B, two shut weeks with sales, then A.
+pub fn long_slots() -> Slots {
+    Slots {
+        counts: vec![2, 0, 0, 1],
+        slots: vec![
+            Slot { product: 0, minutes: 5000 },
+            Slot { product: 1, minutes: 2000 },
+            Slot { product: 0, minutes: 2000 },
+        ],
+        sales: vec![400_000, 50_000, 50_000, 200_000, 50_000, 50_000, 0, 0],
+    }
+}
+
+pub fn long_plan() -> Plan {
+    machine::run(&long_plant(), &long_slots()).expect("the run over four weeks never stops")
 }

@@ -2,10 +2,11 @@
 //! those that pass are exactly those that the runs give, and each gives the one
 //! slot file back.
 //!
-//! All slot files with a few minutes and sales are run. Then plan files are made
-//! whose numbers take all values of small sets, the values of the runs among
-//! them. Where all tables together are too many, either the marks and places
-//! vary over the numbers of each run, or the numbers over the marks of each run.
+//! All slot files with a few minutes and sales are run, with weeks shut in every
+//! way among them. Then plan files are made whose numbers take all values of small
+//! sets, the values of the runs among them. Where all tables together are too many,
+//! either the marks and places vary over the numbers of each run, or the numbers
+//! over the marks of each run.
 
 use std::collections::{BTreeMap, BTreeSet};
 
@@ -32,9 +33,10 @@ fn tiny_plant(products: usize, customers: usize, weeks: usize) -> Plant {
     plant
 }
 
-/// Every list of up to `most` slots with these minutes, also of one product twice.
+/// Every list of up to `most` slots with these minutes, the empty one of a shut
+/// week among them, also of one product twice.
 fn rows(products: usize, most: usize, minutes: &[u16]) -> Vec<Vec<Slot>> {
-    let mut rows: Vec<Vec<Slot>> = Vec::new();
+    let mut rows: Vec<Vec<Slot>> = vec![Vec::new()];
     let mut longest = vec![Vec::new()];
     for _ in 0..most {
         let mut longer = Vec::new();
@@ -70,11 +72,17 @@ fn lists<Value: Clone>(values: &[Value], count: usize) -> Vec<Vec<Value>> {
 /// Runs every slot file with these minutes and sales: the plan files of those
 /// that do not stop, each with its slot file.
 fn runs(plant: &Plant, minutes: &[u16], sales: &[u32]) -> BTreeMap<File, File> {
+    let products = plant.sizes.products;
+    runs_of_rows(plant, &rows(products, products, minutes), sales)
+}
+
+/// The same of every slot file whose weeks are these lists of slots.
+fn runs_of_rows(plant: &Plant, rows: &[Vec<Slot>], sales: &[u32]) -> BTreeMap<File, File> {
     let Sizes { products, customers, weeks } = plant.sizes;
     let plant_file = plant.encode();
     let all_sales = lists(sales, customers * products * weeks);
     let mut given = BTreeMap::new();
-    for weeks in lists(&rows(products, products, minutes), weeks) {
+    for weeks in lists(rows, weeks) {
         for sales in &all_sales {
             let slot_file = Slots::from_rows(&weeks, sales.clone()).encode();
             let expected = reference::plan_file(&plant_file, &slot_file);
@@ -187,12 +195,18 @@ impl<'plant> Passed<'plant> {
         }
     }
 
-    /// Asserts that the plans that passed are all those of the runs, and that the
-    /// slots of each are its slot file.
-    fn assert_all(self, at_least_tried: u64) {
+    /// Every plan with both cells at all their values, over one plan.
+    fn try_pair(&mut self, plan: &[u8], one: &Cell, other: &Cell) {
+        let pair = [one.clone(), other.clone()];
+        for_each_file(&mut plan.to_vec(), &pair, &mut |plan| self.try_plan(plan));
+    }
+
+    /// Asserts that the plans that passed are all those of the runs, as many as
+    /// expected, and that the slots of each are its slot file.
+    fn assert_all(self, at_least_tried: u64, passed: usize) {
         let all: BTreeSet<File> = self.given.keys().cloned().collect();
-        assert!(!all.is_empty());
         assert!(self.passed == all, "{} passed, {} given", self.passed.len(), all.len());
+        assert_eq!(all.len(), passed);
         for (plan, slots) in self.given {
             assert_eq!(library::check(self.plant, plan), Ok(profit(plan)));
             let mut out = vec![0xa5; slots.len()];
@@ -246,7 +260,7 @@ fn numbers(values: impl IntoIterator<Item = impl Into<i64>>) -> Vec<i64> {
 }
 
 /// All values of all tables at once.
-fn assert_whole_grid(plant: &Plant, minutes: &[u16], sales: &[u32], least: u64) {
+fn assert_whole_grid(plant: &Plant, minutes: &[u16], sales: &[u32], least: u64, passing: usize) {
     let given = runs(plant, minutes, sales);
     let (minutes, grams) = (numbers(minutes.to_vec()), numbers(sales.to_vec()));
     let (places, profits) = (numbers(0..=2), profits(&given));
@@ -254,12 +268,12 @@ fn assert_whole_grid(plant: &Plant, minutes: &[u16], sales: &[u32], least: u64) 
     let plant_file = plant.encode();
     let mut passed = Passed::new(&plant_file, &given);
     passed.try_around(&cells);
-    passed.assert_all(least);
+    passed.assert_all(least, passing);
 }
 
 /// All marks and places over the numbers of each run, and all numbers over the
 /// marks and places of each run.
-fn assert_two_grids(plant: &Plant, least: u64) {
+fn assert_two_grids(plant: &Plant, least: u64, passing: usize) {
     let (minutes, sales) = ([0, 1, 2, 3], [0, 1, 2]);
     let given = runs(plant, &minutes, &sales);
     let (minutes, grams) = (numbers(minutes), numbers(sales));
@@ -270,29 +284,29 @@ fn assert_two_grids(plant: &Plant, least: u64) {
     for sections in [structure, amounts] {
         let mut passed = Passed::new(&plant_file, &given);
         passed.try_around(&cells(&given, sections));
-        passed.assert_all(least);
+        passed.assert_all(least, passing);
     }
 }
 
 #[test]
 fn one_product_one_customer_one_week() {
     let plant = tiny_plant(1, 1, 1);
-    assert_whole_grid(&plant, &[0, 1, 2, 3, 4, 5], &[0, 1, 2, 3], 1_000_000);
+    assert_whole_grid(&plant, &[0, 1, 2, 3, 4, 5], &[0, 1, 2, 3], 1_000_000, 6);
 }
 
 #[test]
 fn one_product_two_customers_one_week() {
-    assert_whole_grid(&tiny_plant(1, 2, 1), &[0, 1, 2, 3], &[0, 1, 2], 1_000_000);
+    assert_whole_grid(&tiny_plant(1, 2, 1), &[0, 1, 2, 3], &[0, 1, 2], 1_000_000, 11);
 }
 
 #[test]
 fn one_product_two_weeks() {
-    assert_two_grids(&tiny_plant(1, 1, 2), 100_000);
+    assert_two_grids(&tiny_plant(1, 1, 2), 100_000, 36);
 }
 
 #[test]
 fn two_products_one_week() {
-    assert_two_grids(&tiny_plant(2, 1, 1), 1_000_000);
+    assert_two_grids(&tiny_plant(2, 1, 1), 1_000_000, 35);
 }
 
 /// Three products that all run for a minute: of all F, L, Z and O only the six
@@ -302,13 +316,12 @@ fn three_products_have_six_orders() {
     let mut plant = tiny_plant(3, 1, 1);
     plant.week_minutes = 5;
     let given = runs(&plant, &[0, 1, 2], &[1]);
-    assert_eq!(given.len(), 6);
     let places = numbers(0..=3);
     let values: [Values; 4] = [(1, MARKS), (2, MARKS), (3, MARKS), (5, &places)];
     let plant_file = plant.encode();
     let mut passed = Passed::new(&plant_file, &given);
     passed.try_around(&cells(&given, &values));
-    passed.assert_all(2_000_000);
+    passed.assert_all(2_000_000, 6);
 }
 
 /// Two products, two weeks: around each run every pair of numbers is changed.
@@ -334,11 +347,77 @@ fn two_products_two_weeks() {
             let others =
                 if turn % 16 == 0 { &cells[place + 1..] } else { &cells[cells.len() - 1..] };
             for other in others {
-                let mut file = plan.clone();
-                let pair = [one.clone(), other.clone()];
-                for_each_file(&mut file, &pair, &mut |plan| passed.try_plan(plan));
+                passed.try_pair(plan, one, other);
             }
         }
     }
-    passed.assert_all(1_000_000);
+    passed.assert_all(1_000_000, 713);
+}
+
+/// One product, three weeks, each shut or with a run of a minute: all marks and
+/// places over the numbers of each run, and every pair of numbers around it.
+#[test]
+fn one_product_three_weeks() {
+    let plant = tiny_plant(1, 1, 3);
+    let (minutes, sales) = ([0, 1], [0, 1]);
+    let given = runs(&plant, &minutes, &sales);
+    let (minutes, sales, grams) = (numbers(minutes), numbers(sales), numbers(0..=3));
+    let (places, profits) = (numbers(0..=1), profits(&given));
+    let mut values = values(&places, &minutes, &grams, &profits);
+    values[8].1 = &sales;
+
+    let plant_file = plant.encode();
+    let mut passed = Passed::new(&plant_file, &given);
+    passed.try_around(&cells(&given, &values[..6]));
+    let cells = cells(&given, &values);
+    for plan in given.keys() {
+        for (place, one) in cells.iter().enumerate() {
+            for other in &cells[place + 1..] {
+                passed.try_pair(plan, one, other);
+            }
+        }
+    }
+    passed.assert_all(1_000_000, 34);
+}
+
+/// A plant with minutes for every changeover and room for all that is made, so that
+/// only the order of the products refuses a plan.
+fn roomy_plant(weeks: usize) -> Plant {
+    let mut plant = tiny_plant(2, 1, weeks);
+    plant.week_minutes = 10;
+    plant.storage.fill(Storage { least: 0, greatest: 4 });
+    plant
+}
+
+/// Two products, three weeks, with every order of none, one or both: all marks of
+/// each week over each run.
+#[test]
+fn two_products_three_weeks() {
+    let plant = roomy_plant(3);
+    let given = runs(&plant, &[1], &[0]);
+    let plant_file = plant.encode();
+    let mut passed = Passed::new(&plant_file, &given);
+    for week in 0..3 {
+        let marks: Vec<Cell> = (0..5)
+            .flat_map(|section| {
+                let cells = cells(&given, &[(section, MARKS)]);
+                let count = cells.len() / 3;
+                cells[week * count..(week + 1) * count].to_vec()
+            })
+            .collect();
+        passed.try_around(&marks);
+    }
+    passed.assert_all(1_000_000, 125);
+}
+
+/// Two products, four weeks, each shut or with one run: all marks of ZF over each
+/// run, with up to two shut weeks between producing weeks.
+#[test]
+fn two_products_four_weeks() {
+    let plant = roomy_plant(4);
+    let given = runs_of_rows(&plant, &rows(2, 1, &[1]), &[0]);
+    let plant_file = plant.encode();
+    let mut passed = Passed::new(&plant_file, &given);
+    passed.try_around(&cells(&given, &[(4, MARKS)]));
+    passed.assert_all(1_000_000, 81);
 }

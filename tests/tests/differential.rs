@@ -31,10 +31,13 @@ fn random_files_give_the_same_answers() {
     for (name, wanted) in limits {
         assert!(counts.has_passed(wanted), "no plan of {name} passed");
     }
+    for (name, passed) in counts.passed_shut() {
+        assert!(passed >= 100, "{passed} plans with shut weeks passed: {name}");
+    }
 }
 
 /// What an output holds before each call.
-const UNTOUCHED: [u8; 300] = [0xa5; 300];
+const UNTOUCHED: [u8; 400] = [0xa5; 400];
 
 /// Asserts that all three calls agree on these files: the numbers that check and plan return.
 fn assert_same(plant: &[u8], plan: &[u8], slots: &[u8]) -> [Refusal; 2] {
@@ -52,9 +55,9 @@ fn assert_same(plant: &[u8], plan: &[u8], slots: &[u8]) -> [Refusal; 2] {
     [checked.err().unwrap_or(0), written.err().unwrap_or(0)]
 }
 
-#[test]
-fn every_byte_of_the_small_files_takes_every_value() {
-    let right = [small::plant().encode(), small::plan().encode(), small::slots().encode()];
+/// Lets every byte of these files take every value: the numbers that the calls
+/// return.
+fn change_every_byte(right: [Vec<u8>; 3]) -> Vec<Refusal> {
     let mut numbers = Vec::new();
     for (file, bytes) in right.iter().enumerate() {
         for place in 0..bytes.len() {
@@ -68,10 +71,20 @@ fn every_byte_of_the_small_files_takes_every_value() {
     }
     numbers.sort_unstable();
     numbers.dedup();
+    numbers
+}
+
+#[test]
+fn every_byte_of_the_small_files_takes_every_value() {
     // A plan's lengths can be wrong only with an offset, so that no single byte gives 13.
     let expected: Vec<Refusal> =
         (0..=5).chain([11, 12, 14]).chain(21..=25).chain(31..=41).collect();
-    assert_eq!(numbers, expected);
+    let right = [small::plant().encode(), small::plan().encode(), small::slots().encode()];
+    assert_eq!(change_every_byte(right), expected);
+    // The same with shut weeks.
+    let right =
+        [small::long_plant().encode(), small::long_plan().encode(), small::long_slots().encode()];
+    assert_eq!(change_every_byte(right), expected);
 }
 
 #[test]

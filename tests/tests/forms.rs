@@ -2,7 +2,7 @@
 
 use doxkarin_tests::forms::{read_plan, read_plant, read_slots};
 use doxkarin_tests::layout::Parts;
-use doxkarin_tests::model::{Kind, Plant, Refusal, Sizes, Storage};
+use doxkarin_tests::model::{Kind, Plant, Refusal, Sizes, Slot, Slots, Storage};
 use doxkarin_tests::{samples, small};
 
 /// One kind of file: its first section, its right bodies, and the refusal of a
@@ -154,6 +154,20 @@ fn every_mark_is_0_or_1() {
                 let file = Parts::new(Kind::Plan, 21, &bodies).bytes();
                 assert_eq!(read_plan(&plant, &file).err(), expected, "{section} {place} {mark}");
             }
+        }
+    }
+}
+
+#[test]
+fn a_week_has_up_to_as_many_slots_as_products() {
+    let plant = small::plant();
+    let slot = Slot { product: 1, minutes: 0 };
+    for first in 0..=4 {
+        for second in 0..=4 {
+            let rows = [vec![slot; first], vec![slot; second]];
+            let slots = Slots::from_rows(&rows, small::slots().sales);
+            let expected = if first.max(second) > 2 { Err(24) } else { Ok(slots.clone()) };
+            assert_eq!(read_slots(&plant, &slots.encode()), expected, "{first} {second}");
         }
     }
 }

@@ -1,5 +1,5 @@
-//! The least and the greatest plant, the most slots, sales of more than 2^32
-//! grams in a week, files and outputs of more than 2^32 bytes, and files of
+//! The least and the greatest plant, the most slots and none, sales of more than
+//! 2^32 grams in a week, files and outputs of more than 2^32 bytes, and files of
 //! another kind.
 
 use doxkarin_tests::model::{Plant, Sizes, Slot, Slots, Storage};
@@ -30,6 +30,56 @@ fn the_least_plant_runs() {
     assert_runs(&plant, &slots, 0);
     plant.inventory_costs[0] = 1;
     assert_runs(&plant, &slots, -1);
+}
+
+/// One week, which is shut: the shortest slot file.
+#[test]
+fn the_least_plant_is_shut() {
+    let plant = samples::least_plant(Sizes { products: 1, customers: 1, weeks: 1 });
+    let slots = Slots::from_rows(&[Vec::new()], vec![0]);
+    assert_eq!(slots.encode().len(), 29 + 1 + 4);
+    assert_runs(&plant, &slots, 0);
+}
+
+/// All stock lies at the greatest limit, and everything is owed.
+#[test]
+fn the_greatest_plant_is_shut() {
+    let plant = samples::greatest_plant();
+    let slots = Slots::from_rows(&vec![Vec::new(); 26], vec![0; plant.demand.len()]);
+    let unit = 100_000;
+    let inventory = 26 * 16 * unit * 4_000_000_000;
+    let backlog: i64 = (1..=26).map(|week| 8 * 16 * unit * (week + 1) * 100_000_000).sum();
+    assert_runs(&plant, &slots, -inventory - backlog);
+}
+
+/// The first and the last of 26 weeks produce. The changeover over 24 shut weeks is
+/// the greatest, and the last week has no other minute.
+#[test]
+fn most_weeks_are_shut() {
+    let mut plant = samples::greatest_plant();
+    plant.shortest_run = 1;
+    plant.storage.fill(Storage { least: 0, greatest: 4_000_000_000 });
+    plant.opening_inventory.fill(0);
+    plant.inventory_costs.fill(0);
+    plant.backlog_costs.fill(0);
+    let (from, to) = (15, 0);
+    let place = plant.sizes.from_to(from, to);
+    plant.changeover_minutes[place] = 10_079;
+    let mut rows = vec![Vec::new(); 26];
+    rows[0] = vec![Slot { product: from as u8, minutes: 10_080 }];
+    rows[25] = vec![Slot { product: to as u8, minutes: 1 }];
+    let slots = Slots::from_rows(&rows, vec![0; plant.demand.len()]);
+    assert_runs(&plant, &slots, -1_000_000 * 1000);
+
+    // A minute of changeover more, and the last week is too full.
+    let mut plan = following::plan(&plant, &slots);
+    plant.changeover_minutes[place] = 10_080;
+    following::fill_profit(&plant, &mut plan);
+    let (plant, plan, slots) = (plant.encode(), plan.encode(), slots.encode());
+    assert_eq!(library::check(&plant, &plan), Err(36));
+    assert_eq!(reference::check(&plant, &plan), Err(36));
+    assert_eq!(library::plan(&plant, &slots, &mut vec![0; plan.len()]), Err(36));
+    assert_eq!(reference::plan(&plant, &slots, &mut vec![0; plan.len()]), Err(36));
 }
 
 /// One product runs all weeks and is sold as it is made; everything else is

@@ -1,4 +1,5 @@
-//! The small plant's run, and changes to it.
+//! The small plant's run, that over four weeks with two of them shut, and changes
+//! to both.
 
 use doxkarin_tests::machine::run;
 use doxkarin_tests::model::{Plan, Plant, Refusal, Slots};
@@ -21,6 +22,97 @@ fn the_small_plant_runs() {
         profit: 8_650_000,
     };
     assert_eq!(run(&small::plant(), &small::slots()), Ok(tables));
+}
+
+/// What is mounted stays mounted over the shut weeks, which sell from stock.
+#[test]
+fn shut_weeks_run() {
+    let tables = Plan {
+        ran: vec![1, 1, 0, 0, 0, 0, 1, 0],
+        first: vec![1, 0, 0, 0, 0, 0, 1, 0],
+        last: vec![0, 1, 0, 0, 0, 0, 1, 0],
+        changeovers: vec![0, 1, 0, 0, 0, 0, 0, 0, 0, 0, 0, 0, 0, 0, 0, 0],
+        opening_changeovers: vec![0, 0, 0, 0, 0, 0, 0, 0, 0, 0, 0, 0, 0, 0, 1, 0],
+        places: vec![1, 2, 0, 0, 0, 0, 1, 0],
+        minutes: vec![5000, 2000, 0, 0, 0, 0, 2000, 0],
+        grams: vec![500_000, 100_000, 0, 0, 0, 0, 200_000, 0],
+        sales: vec![400_000, 50_000, 50_000, 200_000, 50_000, 50_000, 0, 0],
+        inventory: vec![100_000, 50_000, 50_000, 0, 0, 0, 0, 0],
+        backlog: vec![0, 50_000, 0, 0, 50_000, 0, 0, 0],
+        // Sales 8,200,000, changeovers 1,100,000, backlog 250,000, inventory 200,000.
+        profit: 6_650_000,
+    };
+    assert_eq!(run(&small::long_plant(), &small::long_slots()), Ok(tables));
+}
+
+/// Runs the plant of four weeks after a change to its slots.
+fn run_long(change: fn(&mut Slots)) -> Result<Plan, Refusal> {
+    let mut slots = small::long_slots();
+    change(&mut slots);
+    run(&small::long_plant(), &slots)
+}
+
+#[test]
+fn a_shut_week_sells_what_is_asked_for_and_in_stock() {
+    // 100,000 of A are asked for in week 1 and in stock.
+    let sold_earlier = run_long(|slots| {
+        slots.sales[1] = 100_000;
+        slots.sales[2] = 0;
+    });
+    // 50,000 of A fewer are owed and in stock after week 1, at 2 and 1 each.
+    assert_eq!(sold_earlier.map(|plan| plan.profit), Ok(6_650_000 + 50_000 * (2 + 1)));
+    assert_eq!(run_long(|slots| slots.sales[1] = 100_001), Err(38));
+    assert_eq!(run_long(|slots| slots.sales[2] = 50_001), Err(38));
+    // 50,000 of B are owed in week 1, and 49,950 are in stock.
+    assert_eq!(run_long(|slots| slots.slots[1].minutes = 1999), Err(39));
+}
+
+#[test]
+fn a_product_over_shut_weeks_needs_no_changeover() {
+    let plan = run_long(|slots| {
+        slots.slots[2].product = 1;
+        slots.sales[3] = 0;
+    });
+    let plan = plan.expect("the run never stops");
+    let sizes = small::long_plant().sizes;
+    assert_eq!(plan.opening_changeovers[sizes.week_from_to(3, 1, 1)], 1);
+    // 200,000 of A are owed and not sold, 100,000 of B are in stock, and there is no
+    // changeover from B to A.
+    assert_eq!(plan.profit, 6_650_000 - 200_000 * (10 + 2) - 100_000 + 500_000);
+}
+
+/// The last week fits with its changeover over the shut weeks, and a minute more
+/// does not.
+#[test]
+fn a_changeover_over_shut_weeks_takes_minutes() {
+    assert!(run_long(|slots| slots.slots[2].minutes = 10_050).is_ok());
+    assert_eq!(run_long(|slots| slots.slots[2].minutes = 10_051), Err(36));
+}
+
+#[test]
+fn the_first_producing_week_has_no_changeover() {
+    let plan = run_long(|slots| {
+        slots.counts = vec![0, 0, 2, 1];
+        slots.sales = vec![0, 0, 500_000, 0, 0, 0, 100_000, 0];
+    });
+    let plan = plan.expect("the run never stops");
+    let sizes = small::long_plant().sizes;
+    let mut opening = vec![0; plan.opening_changeovers.len()];
+    opening[sizes.week_from_to(3, 1, 0)] = 1;
+    assert_eq!(plan.opening_changeovers, opening);
+}
+
+#[test]
+fn every_week_may_be_shut() {
+    let plan = run_long(|slots| {
+        slots.counts.fill(0);
+        slots.slots.clear();
+        slots.sales.fill(0);
+    });
+    let mut tables = Plan::zeros(small::long_plant().sizes);
+    tables.backlog = vec![400_000, 500_000, 500_000, 700_000, 100_000, 100_000, 100_000, 100_000];
+    tables.profit = -(2_100_000 * 2 + 400_000 * 3);
+    assert_eq!(plan, Ok(tables));
 }
 
 /// Runs the small plant after a change: the profit, or the stop.

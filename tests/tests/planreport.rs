@@ -74,6 +74,23 @@ fn the_facts_are_printed() {
 }
 
 #[test]
+fn a_shut_week_has_no_line() {
+    let (plant, plan) = (small::long_plant(), small::long_plan());
+    let text = "\
+passed 6650000
+1 0 0 0 5000
+1 1 40 5040 7040
+4 0 30 30 2030
+";
+    assert_prints_of("shut", &plant.encode(), &plan.encode(), text);
+
+    // With every week shut the profit is the only line.
+    let slots = Slots::from_rows(&vec![Vec::new(); 4], vec![0; plant.demand.len()]);
+    let plan = machine::run(&plant, &slots).expect("the run never stops");
+    assert_prints_of("all-shut", &plant.encode(), &plan.encode(), "passed -5400000\n");
+}
+
+#[test]
 fn a_path_names_a_file() {
     let (plant, plan) = (data().join("plant.bin"), data().join("p11.bin"));
     let folder = empty_folder("path");

@@ -81,11 +81,23 @@ fn the_small_plant_goes_both_ways() {
 }
 
 #[test]
+fn shut_weeks_go_both_ways() {
+    let (plant, slots, plan) =
+        (small::long_plant().encode(), small::long_slots().encode(), small::long_plan().encode());
+    assert_gives("planslots", "shut-slots", &plant, &plan, &Ok(slots.clone()));
+    assert_gives("planwrite", "shut-plan", &plant, &slots, &Ok(plan));
+}
+
+#[test]
 fn the_facts_are_returned_or_refused() {
     for fact in facts::all() {
         let (plant, plan) = (fact.plant.encode(), fact.plan.encode());
         let expected = reference::slot_file(&plant, &plan);
         assert_gives("planslots", &fact.plan_name(), &plant, &plan, &expected);
+        if let Some(slots) = &fact.slots {
+            let expected = fact.answer.map(|_| plan);
+            assert_gives("planwrite", &fact.plan_name(), &plant, &slots.encode(), &expected);
+        }
     }
 }
 

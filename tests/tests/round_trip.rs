@@ -59,6 +59,14 @@ fn the_small_plant_goes_both_ways() {
 }
 
 #[test]
+fn shut_weeks_go_both_ways() {
+    let (plant, plan) = (small::long_plant().encode(), small::long_plan().encode());
+    let slots = small::long_slots().encode();
+    assert_writes(library::slots_into, &plant, &plan, &slots);
+    assert_writes(library::plan_into, &plant, &slots, &plan);
+}
+
+#[test]
 fn random_slots_go_both_ways() {
     let mut random = Random::new(3);
     let mut passed = 0;
@@ -88,6 +96,9 @@ fn a_refusal_leaves_everything() {
     for fact in facts::all() {
         let Err(refusal) = fact.answer else { continue };
         let (plant, plan) = (fact.plant.encode(), fact.plan.encode());
+        if let Some(slots) = fact.slots {
+            assert_leaves(library::plan_into, &plant, &slots.encode(), refusal);
+        }
 
         let mut profit = UNTOUCHED as i64;
         assert_eq!(library::check_into(&plant, &plan, &mut profit), refusal);

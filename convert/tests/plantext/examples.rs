@@ -1,11 +1,12 @@
-//! The example texts: the small plant is the sample files, and the plants of
-//! source 004 say what its tables say.
+//! The example texts: the small plant is the sample files, the year's end has
+//! shut weeks, and the plants of source 004 say what its tables say.
 
 use plantext::binary;
 use plantext::model::{Names, Plant, Slots};
 use plantext::{plant_text, slots_text};
 
 use crate::machine;
+use crate::texts::facts;
 use crate::{read, read_text};
 
 fn plant(name: &str) -> (Plant, Names) {
@@ -33,6 +34,23 @@ fn the_document_shows_the_small_plant() {
     let document = read_text("docs/TEXT.md");
     assert!(document.contains(&read_text("examples/small.plant.txt")));
     assert!(document.contains(&read_text("examples/small.slots.txt")));
+}
+
+#[test]
+fn the_year_ends_with_shut_weeks() {
+    let name = "year-end-6-weeks";
+    let ((plant, names), slots) = (plant(name), slots(name));
+    let counts: Vec<usize> = slots.weeks.iter().map(Vec::len).collect();
+    assert_eq!(counts, [2, 2, 0, 2, 1, 0]);
+    // Another product is made after week 3 than before, and week 3 sells from stock.
+    assert_ne!(slots.weeks[1][1].product, slots.weeks[3][0].product);
+    assert!(slots.sales.iter().skip(2).step_by(6).any(|&sale| sale > 0));
+    assert_eq!(machine::run(&plant, &slots), Ok(21_450_000));
+
+    let file = binary::encode_slots(&slots);
+    let back = binary::decode_slots(plant.sizes, &file).expect("a good file");
+    let text = slots_text::write(plant.sizes, &names, &back);
+    assert_eq!(facts(&text), facts(&read_text("examples/year-end-6-weeks.slots.txt")));
 }
 
 /// Thousandths of a cent of the examples to one of source 004's dollars.

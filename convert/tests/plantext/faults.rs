@@ -381,11 +381,7 @@ fn missing_facts() {
 }
 
 #[test]
-fn missing_weeks_and_runs() {
-    assert_eq!(
-        slots_faults(&[(2, ""), (3, "")]),
-        ["1: week 1 has no run; expected a line: run PRODUCT NUMBER minutes"]
-    );
+fn missing_weeks() {
     assert_eq!(
         slots_faults(&[(6, ""), (7, ""), (8, ""), (9, ""), (10, "")]),
         ["10: week 2 is missing; expected the plant's 2 weeks"]
@@ -483,12 +479,13 @@ fn all_faults_are_told_at_once() {
         ]
     );
     assert_eq!(
-        slots_faults(&[(2, "run A"), (4, "sell C1 A all"), (7, ""), (8, ""), (9, "sell C1 D 1")]),
+        slots_faults(&[(2, "run A"), (4, "sell C1 A all"), (6, "week 3"), (9, "sell C1 D 1")]),
         [
             "2: the line ends after \"run A\"; expected: run PRODUCT NUMBER minutes",
             "4: \"all\" is not a number in digits; expected a sale of 0 to 4294967295 grams",
-            "6: week 2 has no run; expected a line: run PRODUCT NUMBER minutes",
+            "6: \"3\" is not a week of the plant; expected 1 to 2",
             "9: unknown product \"D\"; expected one of A, B",
+            "10: week 2 is missing; expected the plant's 2 weeks",
         ]
     );
 }

@@ -1,11 +1,12 @@
-//! `plantext` as a program: arguments, exit status and what becomes of OUT.
+//! `plantext` as a program: arguments, exit status and what becomes of OUT; and the
+//! way of a text through it and the proved programs.
 
 use std::fs;
 use std::path::{Path, PathBuf};
 use std::process::{Command, Output};
 
-use crate::texts::{changed, PLANT, SLOTS};
-use crate::{read, repository};
+use crate::texts::{changed, facts, PLANT, SLOTS};
+use crate::{read, read_text, repository};
 
 /// A folder of the test's own, with the small plant's texts and files.
 struct Folder {
@@ -57,6 +58,19 @@ impl Folder {
         let output = self.run(arguments);
         assert_eq!(text(&output.stderr), "", "{arguments}");
         assert_eq!(output.status.code(), Some(0), "{arguments}");
+        text(&output.stdout)
+    }
+
+    /// Runs one of the proved programs, and gives what it prints.
+    fn proved(&self, program: &str, arguments: &str) -> String {
+        let path = repository("target/bin").join(program);
+        let path = path.canonicalize().unwrap_or_else(|error| {
+            panic!("{}: {error}: run `rt check {program}` first", path.display())
+        });
+        let mut command = Command::new(path);
+        command.args(arguments.split_whitespace()).current_dir(&self.path);
+        let output = command.output().expect("the program runs");
+        assert_eq!(text(&output.stderr), "", "{program} {arguments}");
         text(&output.stdout)
     }
 
@@ -124,6 +138,54 @@ fn files_become_texts_and_files_again() {
     assert_eq!(folder.read("again-slots.bin"), folder.read("slots.bin"));
 }
 
+/// From the texts of a plan at the year's end to a judged plan, and back to the
+/// same slots: what planreport prints, and the slots as they are shown.
+fn through_all_programs(name: &str, slots: &str) -> (String, String) {
+    let folder = Folder::new(name);
+    folder.write("plant.txt", &read("examples/year-end-6-weeks.plant.txt"));
+    folder.write("slots.txt", slots.as_bytes());
+    folder.printed("plant plant.txt plant.bin");
+    folder.printed("slots plant.txt slots.txt slots.bin");
+    assert_eq!(folder.proved("planwrite", "plant.bin slots.bin plan.bin"), "written 526\n");
+    let report = folder.proved("planreport", "plant.bin plan.bin");
+    assert_eq!(folder.proved("planslots", "plant.bin plan.bin again.bin"), "written 152\n");
+    assert_eq!(folder.read("again.bin"), folder.read("slots.bin"));
+    let shown = folder.printed("show plant.txt again.bin");
+    assert_eq!(facts(&shown), facts(slots));
+    (report, shown)
+}
+
+const YEAR_END_RUNS: &str = "
+1 0 0 0 6000
+1 1 40 6040 9040
+2 1 0 0 4000
+2 0 30 4030 7530
+4 1 40 40 4040
+4 0 30 4070 9070
+5 0 0 0 3300
+";
+
+/// A shut week between producing weeks, which sells, and one at the end.
+#[test]
+fn shut_weeks_go_through_all_programs() {
+    let slots = read_text("examples/year-end-6-weeks.slots.txt");
+    let (report, shown) = through_all_programs("shut_weeks", &slots);
+    assert_eq!(report, format!("passed 21450000{YEAR_END_RUNS}"));
+    assert!(shown.ends_with("\n\nweek 6\n"), "{shown}");
+}
+
+/// The same where the week between is a bare line.
+#[test]
+fn a_bare_week_goes_through_all_programs() {
+    let slots = read_text("examples/year-end-6-weeks.slots.txt");
+    let (before, rest) = slots.split_once("\nweek 3\n").expect("week 3");
+    let (_, after) = rest.split_once("\nweek 4\n").expect("week 4");
+    let slots = format!("{before}\nweek 3\nweek 4\n{after}");
+    let (report, shown) = through_all_programs("bare_week", &slots);
+    assert_eq!(report, format!("passed 13100000{YEAR_END_RUNS}"));
+    assert!(shown.contains("\n\nweek 3\n\nweek 4\n"), "{shown}");
+}
+
 #[test]
 fn the_plants_text_has_the_names() {
     let folder = Folder::new("names");
@@ -171,8 +233,8 @@ fn files_that_are_not_good_are_refused() {
     assert_eq!(folder.told("slots rate.bin slots.txt out.bin"), out_of_range);
     assert_eq!(
         folder.told("show plant.bin product.bin"),
-        "product.bin: refused 24: a week has no slot or more slots than products, or a slot's \
-         product is not one of the plant's\n"
+        "product.bin: refused 24: a week has more slots than products, or a slot's product is \
+         not one of the plant's\n"
     );
     let no_plant = "refused 1: it is too short for a plant file's contents, or its kind, count of \
                     sections or section numbers are not a plant file's\n";

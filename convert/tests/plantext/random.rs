@@ -1,4 +1,5 @@
-//! Plants and slots with numbers anywhere in their ranges, many of them 0.
+//! Plants and slots with numbers anywhere in their ranges, many of them 0, and
+//! half of the weeks shut.
 
 use std::ops::RangeInclusive;
 
@@ -87,7 +88,7 @@ impl Random {
     /// Slots that have the form, though hardly any run without a stop.
     pub fn slots(&mut self, sizes: Sizes) -> Slots {
         let weeks = (0..sizes.weeks).map(|_| {
-            let count = self.size(1..=sizes.products as u64);
+            let count = self.size(0..=sizes.products as u64);
             let slots = (0..count).map(|_| Slot {
                 product: u8::try_from(self.size(0..=sizes.products as u64 - 1)).expect("a byte"),
                 minutes: self.minutes(limits::RUN),

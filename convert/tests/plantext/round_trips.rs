@@ -1,6 +1,6 @@
 //! From numbers to text and back, and to bytes and back.
 
-use plantext::model::Names;
+use plantext::model::{Names, Sizes, Slot, Slots};
 use plantext::{binary, plant_text, slots_text};
 
 use crate::random::Random;
@@ -32,6 +32,55 @@ fn slots_come_back_from_text_and_bytes() {
         let file = binary::encode_slots(&slots);
         assert_eq!(binary::decode_slots(sizes, &file), Ok(slots), "seed {seed}");
     }
+}
+
+/// The text of weeks that are shut or run A. A shut week is its week line alone.
+fn text_of_weeks(shut: &[bool]) -> String {
+    let weeks = shut.iter().enumerate().map(|(week, &is_shut)| {
+        let run = if is_shut { "" } else { "run A 300 minutes\n" };
+        format!("week {}\n{run}", week + 1)
+    });
+    weeks.collect::<Vec<_>>().join("\n")
+}
+
+/// Any of four weeks may be shut: the first, the last, several in a row and all.
+#[test]
+fn shut_weeks_come_back_from_text_and_bytes() {
+    let sizes = Sizes { products: 2, customers: 1, weeks: 4 };
+    let names = Names { products: vec!["A".into(), "B".into()], customers: vec!["C1".into()] };
+    for pattern in 0..16 {
+        let shut: Vec<bool> = (0..4).map(|week| pattern & (1 << week) != 0).collect();
+        let text = text_of_weeks(&shut);
+        let slots = slots_text::read(sizes, &names, text.as_bytes()).expect("a good text");
+        let run = Slot { product: 0, minutes: 300 };
+        let weeks: Vec<Vec<Slot>> =
+            shut.iter().map(|&is_shut| if is_shut { vec![] } else { vec![run] }).collect();
+        assert_eq!(slots, Slots { weeks, sales: vec![0; 8] }, "{shut:?}");
+
+        let file = binary::encode_slots(&slots);
+        let counts: Vec<u8> = shut.iter().map(|&is_shut| u8::from(!is_shut)).collect();
+        assert_eq!(file[29..33], counts, "{shut:?}");
+        let back = binary::decode_slots(sizes, &file).expect("a good file");
+        assert_eq!(slots_text::write(sizes, &names, &back), text, "{shut:?}");
+    }
+}
+
+#[test]
+fn a_shut_week_has_sales() {
+    let (plant, names) =
+        plant_text::read(texts::changed(&texts::PLANT, &[]).as_bytes()).expect("a good text");
+    let text = texts::changed(&texts::SLOTS, &[(7, ""), (8, "")]);
+    let slots = slots_text::read(plant.sizes, &names, text.as_bytes()).expect("a good text");
+    assert_eq!(binary::encode_slots(&slots), read("crates/formcheck/data/slots-0-shut-week.bin"));
+    let text = texts::changed(&texts::SLOTS, &[(2, ""), (3, ""), (7, ""), (8, "")]);
+    let slots = slots_text::read(plant.sizes, &names, text.as_bytes()).expect("a good text");
+    assert_eq!(binary::encode_slots(&slots), read("crates/formcheck/data/slots-0-shut-weeks.bin"));
+    let shown = slots_text::write(plant.sizes, &names, &slots);
+    assert_eq!(
+        shown,
+        "week 1\nsell C1 A 400000 grams\nsell C1 B 100000 grams\n\n\
+         week 2\nsell C1 A 300000 grams\nsell C1 B 150000 grams\n"
+    );
 }
 
 #[test]

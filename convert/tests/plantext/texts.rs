@@ -51,6 +51,13 @@ pub fn changed(lines: &[&str], changes: &[(usize, &str)]) -> String {
     lines.join("\n") + "\n"
 }
 
+/// The facts of a text, a line each, with kilograms as grams.
+pub fn facts(text: &str) -> Vec<String> {
+    let lines = text.lines().map(|line| line.split('#').next().unwrap_or_default().trim());
+    let in_grams = |line: &str| line.replace(" kilograms", "000 grams");
+    lines.filter(|line| !line.is_empty()).map(in_grams).collect()
+}
+
 /// Faults as "LINE: MESSAGE".
 pub fn told<Good>(result: Result<Good, Vec<Fault>>) -> Vec<String> {
     let faults = result.err().unwrap_or_default();

@@ -1,3 +1,4 @@
 pub mod SameRuns
 pub mod ThirdDemandHolds
 pub mod OtherDemandsHold
+pub mod ShutWeeksHold

@@ -1,6 +1,6 @@
 -- The third demand holds, for every accepted plant file and every list of bytes as the plan file. Assumes nothing.
 use Prim.Native.Nat.{ℕ, _<_}
-use mathlib.Core.Path.{_≡_, refl, sym, ap, _∙_}
+use mathlib.Core.Path.{_≡_, refl, sym, _∙_}
 use mathlib.Core.List.{List}
 use native.Mathlib.Omega.{arith}
 use Rattle.numbers.specs.Number.{Bytes}
@@ -95,7 +95,7 @@ module _ (plant : List ℕ) (f : Shape) (accepted : plantForm plant ≡ Good f) 
     same : SamePlan f X (runTables P S)
     same = rw (g .gives) at (plan-file.file-plan f (runTables P S) small fits)
 
-    given : Gives P S s X
+    pub given : Gives P S s X
     given = record { formed = own .formed; runs = own .runs; same = same }
 
     passing : Passing f plant plan (s .profit)
@@ -110,7 +110,7 @@ module _ (plant : List ℕ) (f : Shape) (accepted : plantForm plant ≡ Good f) 
     shown : file ≡ slots
     shown = same-slots.same-file f shownSlots S (shown-slots R given) ∙ sym (slots-is-file f slots (g .bytes) (g .rows))
 
-    slot-answer : slotAnswer plant plan ≡ bytes slots
+    pub slot-answer : slotAnswer plant plan ≡ bytes slots
     unfolding slotAnswer
     slot-answer = rw (passing-judged plant plan f (s .profit) passing, shown)
 

@@ -1,3 +1,4 @@
 pub mod FirstDemand
 pub mod SecondDemand
 pub mod ThirdDemand
+pub mod ShutWeeks

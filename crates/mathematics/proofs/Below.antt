@@ -5,7 +5,7 @@ use mathlib.Core.Logic.{_≢_}
 use mathlib.Core.Bool.{Bool, true, false, _&&_, cond, true≢false}
 use native.Mathlib.Omega.{arith}
 use native.Mathlib.Decide.{ℕ-discrete}
-use lib.Dec.{eqb, leb}
+use lib.Dec.{leb}
 use borrow.Author.Tests.{eq-eqb, ne-eqb, leb-true, le-leb}
 use Rattle.mathematics.specs.Below.{sumBelow, allBelow, implies, within, is, firstBelow}
 
@@ -197,16 +197,3 @@ pub mul-both : (a b : ℕ) → 1 ≤ a * b → (1 ≤ a) × (1 ≤ b)
 mul-both zero b h = omega arith
 mul-both (suc a) zero h = omega arith
 mul-both (suc a) (suc b) h = omega arith
-
--- a sum of 1: one term is 1, the others are 0
-pub sum-one : (n : ℕ) (f : ℕ → ℕ) → sumBelow n f ≡ 1 → (k : ℕ) × (k < n) × (f k ≡ 1) × ((i : ℕ) → i < n → i ≢ k → f i ≡ 0)
-sum-one n f h =
-    let r = sum-some n f (omega arith) in (
-      r .0,
-      r .1,
-      omega (arith, r .2, term-le-sum n f (r .0) (r .1)),
-      λ i l d. elim (ℕ-discrete (f i) 0) [
-        | yes e ↦ e
-        | no e ↦ absurd (d (sum-unique n f (omega arith) i (r .0) l (r .1) (omega arith) (r .2)))
-      ],
-    )

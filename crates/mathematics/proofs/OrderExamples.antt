@@ -5,7 +5,7 @@ use mathlib.Core.Bool.{true, false}
 use mathlib.Core.List.{List, [], _∷_}
 use lib.ListN.{getD}
 use Rattle.mathematics.specs.Below.{listBelow, is}
-use Rattle.mathematics.specs.Week.{WeekTables, binary, markedOnce, rule31, rule32, rule34}
+use Rattle.mathematics.specs.Week.{WeekTables, binary, markedOnce, oneEach, shut, rule31, rule32, rule34}
 use Rattle.mathematics.specs.Order.{isOrder, assignedIn, firstIn, lastIn, positionIn, changeoverIn, orderTables, productAt, orderOf}
 
 -- ---- four products, of which 2, 0 and 3 are made in this order
@@ -35,7 +35,7 @@ changeovers = refl
 
 passes : (binary 4 (orderTables example) ≡ true) × (rule31 4 (orderTables example) ≡ true)
     × (rule32 4 (orderTables example) ≡ true) × (rule34 4 (orderTables example) ≡ true)
-unfolding binary markedOnce rule31 rule32 rule34 is
+unfolding binary markedOnce oneEach rule31 rule32 rule34 is
 passes = (refl, refl, refl, refl)
 
 computed : orderOf 4 (orderTables example) ≡ example
@@ -58,7 +58,7 @@ ring position =
 
 -- rules 31 and 32 hold, whatever the positions
 ring-passes : (position : ℕ → ℕ) → (binary 3 (ring position) ≡ true) × (rule31 3 (ring position) ≡ true) × (rule32 3 (ring position) ≡ true)
-unfolding binary markedOnce rule31 rule32
+unfolding binary markedOnce oneEach rule31 rule32
 ring-passes position = (refl, refl, refl)
 
 -- rule 34 fails, with counted positions and with equal ones
@@ -66,17 +66,19 @@ ring-fails : (rule34 3 (ring (table (1 ∷ 2 ∷ 3 ∷ []))) ≡ false) × (rule
 unfolding rule34
 ring-fails = (refl, refl)
 
--- ---- a week of no product, and a first product that is not assigned: rule 31 fails
-abbrev one-product : ℕ → ℕ → WeekTables
-one-product assigned first =
+-- ---- one product: the week makes it, or is shut; a mark without the others breaks rule 31
+abbrev one-product : (assigned first last : ℕ) → WeekTables
+one-product assigned first last =
     record {
       assigned = λ i. assigned;
       first = λ i. first;
-      last = λ i. first;
+      last = λ i. last;
       position = λ i. assigned;
       changeover = λ i j. 0;
     }
 
-one-product-31 : (rule31 1 (one-product 1 1) ≡ true) × (rule31 1 (one-product 0 0) ≡ false) × (rule31 1 (one-product 0 1) ≡ false)
-unfolding markedOnce rule31
-one-product-31 = (refl, refl, refl)
+one-product-31 : (rule31 1 (one-product 1 1 1) ≡ true) × (rule31 1 (one-product 0 0 0) ≡ true)
+    × (rule31 1 (one-product 1 0 0) ≡ false) × (rule31 1 (one-product 0 1 0) ≡ false) × (rule31 1 (one-product 0 0 1) ≡ false)
+    × (rule31 1 (one-product 0 1 1) ≡ false)
+unfolding markedOnce oneEach shut rule31
+one-product-31 = (refl, refl, refl, refl, refl, refl)

@@ -133,16 +133,6 @@ module _ (N : ℕ) where
   rest : (p : ℕ) (ps : List ℕ) → ProductsBelow N (p ∷ ps) → ProductsBelow N ps
   rest p ps b k l = b (suc k) (omega arith)
 
-  -- a first and a last product, where there is one
-  pub sum-first-in : (ps : List ℕ) → ProductsBelow N ps → 0 < length ps → sumBelow N (firstIn ps) ≡ 1
-  sum-first-in [] b h = absurd (omega arith)
-  sum-first-in (p ∷ ps) b h = sum-is N p (b 0 (omega arith))
-
-  pub sum-last-in : (ps : List ℕ) → ProductsBelow N ps → 0 < length ps → sumBelow N (lastIn ps) ≡ 1
-  sum-last-in [] b h = absurd (omega arith)
-  sum-last-in (p ∷ []) b h = sum-is N p (b 0 (omega arith))
-  sum-last-in (p ∷ q ∷ ps) b h = sum-last-in (q ∷ ps) (rest p (q ∷ ps) b) (omega arith)
-
   -- Z into a product, and out of it
   into : (ps : List ℕ) → ProductsBelow N ps → (j : ℕ) → sumBelow N (λ i. changeoverIn ps i j) + firstIn ps j ≡ assignedIn ps j
   into [] b j = omega (arith, sum-zero N (λ i. 0) (λ i l. refl))

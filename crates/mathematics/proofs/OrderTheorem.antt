@@ -1,26 +1,25 @@
 -- The order theorem of one week: tables meet the rules 31, 32 and 34 exactly where they are the tables of an order, a list of products
 -- below N with none twice; the order is unique, and is computed from E and O. Assumes nothing.
-use Prim.Native.Nat.{ℕ, zero, suc, _<_, _≤_}
+use Prim.Native.Nat.{ℕ, zero, suc, _<_}
 use mathlib.Core.Path.{_≡_, refl, sym, ap, _∙_}
 use mathlib.Core.Logic.{_↔_}
-use mathlib.Core.Bool.{Bool, true, false, _||_, or-true}
-use mathlib.Core.List.{List}
+use mathlib.Core.Bool.{true, false, or-true}
+use mathlib.Core.List.{List, [], _∷_}
 use native.Mathlib.Omega.{arith}
 use native.Mathlib.Decide.{ℕ-discrete}
 use lib.ListN.{length}
 use lib.Seq.{ext-getD}
 use lib.Dec.{eqb}
 use borrow.Author.Tests.{eqb-true, eq-eqb}
-use Rattle.mathematics.specs.Below.{sumBelow}
-use Rattle.mathematics.specs.Week.{WeekTables, count, binary, rule31, shut, rule32, rule34, Meets}
-use Rattle.mathematics.specs.Order.{orderAt, isOrder, firstIn, positionIn, orderTables, productAt, orderOf, Agree}
-use Rattle.mathematics.proofs.Below.{sum-ext, sum-zero, term-le-sum, first-below}
+use Rattle.mathematics.specs.Week.{WeekTables, count, oneEach, shut, rule31, NoProduct, Meets}
+use Rattle.mathematics.specs.Order.{orderAt, isOrder, positionIn, orderTables, productAt, orderOf, Agree}
+use Rattle.mathematics.proofs.Below.{sum-ext, sum-zero, term-le-sum, first-below, is-same}
 use Rattle.mathematics.proofs.Sums.{length-list, getD-list}
-use Rattle.mathematics.proofs.WeekRules.{WeekFacts, all-into, facts31, facts-of, meets-first, week-facts, shut-facts, facts-shut}
-use Rattle.mathematics.proofs.WeekRules.{holds31, holds32, holds34, facts-binary, facts-meet, facts-agree}
+use Rattle.mathematics.proofs.WeekRules.{WeekFacts, all-into, one-last, week-facts, facts-shut, not-shut}
+use Rattle.mathematics.proofs.WeekRules.{holds-once, holds32, holds34, facts-binary, facts-agree}
 use Rattle.mathematics.proofs.WeekPositions.{some-first, position-some, position-only, agree-by-position}
 use Rattle.mathematics.proofs.OrderTables.{OrderFacts, order-facts, facts-order, position-index, position-means}
-use Rattle.mathematics.proofs.OrderTables.{order-count, sum-first-in, order-week-facts}
+use Rattle.mathematics.proofs.OrderTables.{order-count, order-week-facts}
 
 -- n is the length of the order that the tables show
 pub order-length : (N : ℕ) (x : WeekTables) → length (orderOf N x) ≡ count N x
@@ -74,10 +73,6 @@ module _ (N : ℕ) (x : WeekTables) (m : Meets N x) where
   pub shown-order : isOrder N (orderOf N x) ≡ true
   shown-order = facts-order N (orderOf N x) (shown-facts N x (week-facts N x m))
 
-  pub shown-some : 0 < length (orderOf N x)
-  shown-some =
-      omega (arith, order-length N x, all-into (week-facts N x m), meets-first N x m)
-
   pub shown-tables : Agree N x (orderTables (orderOf N x))
   shown-tables = shown-agree N x (week-facts N x m)
 
@@ -86,52 +81,65 @@ module _ (N : ℕ) (x : WeekTables) (m : Meets N x) where
       → (orderAt (orderOf N x) k ≡ productAt N x k) × (productAt N x k < N) × (x .position (productAt N x k) ≡ suc k)
   product-at k l = let r = product-position N x (week-facts N x m) k l in (order-product N x k l, r .0, r .1)
 
--- tables that agree with an order's have the facts of a week, and meet the rules where the order has a product
+-- the facts of a week are the rules: there is a first product, or none at all
+pub facts-meet : (N : ℕ) (x : WeekTables) → WeekFacts N x → Meets N x
+unfolding rule31
+facts-meet N x w =
+    record {
+      is-binary = facts-binary N x w;
+      meets31 = elim (ℕ-discrete (count N x) 0) [
+        | yes e ↦
+            (let none = facts-shut N x e (omega (arith, all-into w)) (omega (arith, one-last w, all-into w)) in
+            rw none (or-true (oneEach N x)))
+        | no d ↦ rw (holds-once N x w (some-first N x w (omega arith)))
+      ];
+      meets32 = holds32 N x w;
+      meets34 = holds34 N x w;
+    }
+
+-- tables that agree with an order's have the facts of a week
 pub order-agree : (N : ℕ) (x : WeekTables) (order : List ℕ) → isOrder N order ≡ true → Agree N x (orderTables order) → WeekFacts N x
 order-agree N x order h a = facts-agree N x (orderTables order) a (order-week-facts N order (order-facts N order h))
 
-pub order-meets : (N : ℕ) (x : WeekTables) (order : List ℕ) → isOrder N order ≡ true → 0 < length order → Agree N x (orderTables order) → Meets N x
-order-meets N x order h some a =
-    facts-meet N x (order-agree N x order h a)
-    (sum-ext N (x .first) (firstIn order) (a .first) ∙ sum-first-in N order (order-facts N order h .below) some)
+pub order-meets : (N : ℕ) (x : WeekTables) (order : List ℕ) → isOrder N order ≡ true → Agree N x (orderTables order) → Meets N x
+order-meets N x order h a = facts-meet N x (order-agree N x order h a)
 
 -- the order theorem
-pub order-theorem : (N : ℕ) (x : WeekTables)
-    → Meets N x ↔ ((order : List ℕ) × (isOrder N order ≡ true) × (0 < length order) × Agree N x (orderTables order))
-order-theorem N x = (
-  λ m. (orderOf N x, shown-order N x m, shown-some N x m, shown-tables N x m),
-  λ r. order-meets N x (r .0) (r .1) (r .2) (r .3),
-)
+pub order-theorem : (N : ℕ) (x : WeekTables) → Meets N x ↔ ((order : List ℕ) × (isOrder N order ≡ true) × Agree N x (orderTables order))
+order-theorem N x = (λ m. (orderOf N x, shown-order N x m, shown-tables N x m), λ r. order-meets N x (r .0) (r .1) (r .2))
 
--- the same with weeks of no product
-module _ (N : ℕ) (x : WeekTables) where
-  abbrev pub MeetsOrShut : Type 0
-  MeetsOrShut = (binary N x ≡ true) × (rule31 N x || shut N x ≡ true) × (rule32 N x ≡ true) × (rule34 N x ≡ true)
+-- ---- a shut week, of no product
+-- without E, all of the week's tables are 0
+pub shut-zero : (N : ℕ) (x : WeekTables) → WeekFacts N x → count N x ≡ 0 → NoProduct N x
+shut-zero N x w e =
+    let none : (i : ℕ) → i < N → x .assigned i ≡ 0 = λ i l. omega (arith, term-le-sum N (x .assigned) i l) in
+    record {
+      assigned = none;
+      first = λ i l. omega (arith, w .into i l, none i l);
+      last = λ i l. omega (arith, w .out i l, none i l);
+      position = λ i l. w .absent i l (none i l);
+      changeover = λ i l j m. omega (arith, w .out i l, none i l, term-le-sum N (x .changeover i) j m);
+    }
 
-  open-or-shut : WeekFacts N x → rule31 N x || shut N x ≡ true
-  open-or-shut w = elim (ℕ-discrete (count N x) 0) [
-    | yes e ↦ rw (facts-shut N x (λ i l.
-        let none : x .assigned i ≡ 0 = omega (arith, term-le-sum N (x .assigned) i l) in
-        (none, omega (arith, w .into i l), omega (arith, w .out i l)))) (or-true (rule31 N x))
-    | no d ↦ rw (holds31 N x w (some-first N x w (omega arith)))
-  ]
+-- and such tables are of a week
+pub zero-facts : (N : ℕ) (x : WeekTables) → NoProduct N x → WeekFacts N x
+unfolding isOrder
+zero-facts N x z =
+    order-agree N x [] refl (record {
+      assigned = z .assigned;
+      first = z .first;
+      last = z .last;
+      position = z .position;
+      changeover = z .changeover;
+    })
 
-  few-first : rule31 N x || shut N x ≡ true → sumBelow N (x .first) ≤ 1
-  few-first h = go (rule31 N x) refl h
-    where
-      go : (t : Bool) → rule31 N x ≡ t → t || shut N x ≡ true → sumBelow N (x .first) ≤ 1
-      go true q k = omega (arith, facts31 N x q .0 .0)
-      go false q k = omega (arith, sum-zero N (x .first) (λ i l. shut-facts N x k i l .1))
+-- tables that agree with an order's are those of a shut week exactly where the order is empty
+pub agree-shut : (N : ℕ) (x : WeekTables) → Agree N x (orderTables []) → shut N x ≡ true
+agree-shut N x a = facts-shut N x (sum-zero N (x .assigned) (a .assigned)) (sum-zero N (x .first) (a .first)) (sum-zero N (x .last) (a .last))
 
-  pub shut-or-order : MeetsOrShut ↔ ((order : List ℕ) × (isOrder N order ≡ true) × Agree N x (orderTables order))
-  shut-or-order = (
-    λ m.
-        let w = facts-of N x (m .0) (few-first (m .1)) (m .2) (m .3) in
-        (orderOf N x, facts-order N (orderOf N x) (shown-facts N x w), shown-agree N x w),
-    λ r.
-        let w = order-agree N x (r .0) (r .1) (r .2) in
-        (facts-binary N x w, open-or-shut w, holds32 N x w, holds34 N x w),
-  )
+pub agree-not-shut : (N : ℕ) (x : WeekTables) (p : ℕ) (ps : List ℕ) → p < N → Agree N x (orderTables (p ∷ ps)) → shut N x ≡ false
+agree-not-shut N x p ps l a =
+    not-shut N x (λ e. absurd (omega (arith, a .assigned p l, is-same p p refl, term-le-sum N (x .assigned) p l)))
 
 -- two orders with the same positions are equal
 pub uniqueness : (N : ℕ) (a b : List ℕ) → isOrder N a ≡ true → isOrder N b ≡ true

@@ -6,7 +6,7 @@ use mathlib.Core.Bool.{Bool, true, false, _&&_}
 use native.Mathlib.Omega.{arith}
 use native.Mathlib.Nat.{add-zero, add-suc, zero-mul, suc-mul, mul-comm, mul-le-mul-right, le-trans}
 use Rattle.mathematics.specs.Below.{sumBelow, allBelow}
-use Rattle.mathematics.proofs.Below.{sum-ext, sum-mono, sum-mul, sum-swap, sum-const}
+use Rattle.mathematics.proofs.Below.{sum-ext, sum-mono, sum-mul, sum-swap, sum-const, all-each, each-all}
 use Rattle.mathematics.proofs.Join.{row-of, column-of}
 
 -- ---- tests
@@ -35,6 +35,13 @@ all-both (suc n) p q = and-swap (allBelow n p) (p n) (allBelow n q) (q n) ∙ ap
 all-true : (n : ℕ) → allBelow n (λ i. true) ≡ true
 all-true zero = refl
 all-true (suc n) = ap (λ (b : Bool). b && true) (all-true n)
+
+-- at each row and column
+pub all-grid : (n m : ℕ) (p : ℕ → ℕ → Bool) → allBelow n (λ i. allBelow m (p i)) ≡ true → (i j : ℕ) → i < n → j < m → p i j ≡ true
+all-grid n m p h i j l k = all-each m (p i) (all-each n (λ u. allBelow m (p u)) h i l) j k
+
+pub grid-all : (n m : ℕ) (p : ℕ → ℕ → Bool) → ((i j : ℕ) → i < n → j < m → p i j ≡ true) → allBelow n (λ i. allBelow m (p i)) ≡ true
+grid-all n m p h = each-all n (λ u. allBelow m (p u)) (λ i l. each-all m (p i) (λ j k. h i j l k))
 
 -- rows and columns, either way
 pub all-swap : (n m : ℕ) (p : ℕ → ℕ → Bool) → allBelow n (λ i. allBelow m (p i)) ≡ allBelow m (λ j. allBelow n (λ i. p i j))

@@ -1,13 +1,14 @@
 -- What the rules 31, 32 and 34 say of a week's tables, as facts about numbers, both ways. Assumes nothing.
 use Prim.Native.Nat.{ℕ, _+_, _<_, _≤_}
 use mathlib.Core.Path.{_≡_, refl, sym, _∙_}
-use mathlib.Core.Bool.{Bool, true, false, cond}
+use mathlib.Core.Logic.{_≢_, _⊎_, inl, inr}
+use mathlib.Core.Bool.{Bool, true, false, _&&_, _||_, cond}
 use native.Mathlib.Omega.{arith}
 use native.Mathlib.Decide.{ℕ-discrete}
 use lib.Dec.{eqb, leb}
 use borrow.Author.Tests.{eqb-true, eqb-false, leb-true, eq-eqb, ne-eqb, le-leb}
 use Rattle.mathematics.specs.Below.{sumBelow, allBelow, implies, within}
-use Rattle.mathematics.specs.Week.{WeekTables, count, binary, markedOnce, rule31, shut, rule32, rule34, Meets}
+use Rattle.mathematics.specs.Week.{WeekTables, count, binary, markedOnce, oneEach, shut, rule31, rule32, rule34, Meets}
 use Rattle.mathematics.specs.Order.{Agree}
 use Rattle.mathematics.proofs.Below.{sum-ext, sum-add, sum-swap, all-each, each-all}
 use Rattle.mathematics.proofs.Below.{and-both, and-three, and-four, both-and, implies-at, at-implies, within-at, at-within}
@@ -106,8 +107,8 @@ module _ (N : ℕ) (x : WeekTables) where
       (le-leb (x .last i) 1 (h i l .2)))
       (each-all N _ (λ j m. le-leb (x .changeover i j) 1 (h i l .3 j m))))
 
-  pub facts31 : rule31 N x ≡ true → OnceFacts N (x .first) (x .assigned) × OnceFacts N (x .last) (x .assigned)
-  unfolding rule31
+  pub facts31 : oneEach N x ≡ true → OnceFacts N (x .first) (x .assigned) × OnceFacts N (x .last) (x .assigned)
+  unfolding oneEach
   facts31 h =
       let r = and-both (markedOnce N (x .first) (x .assigned)) (markedOnce N (x .last) (x .assigned)) h in
       (once-facts N (x .first) (x .assigned) (r .0), once-facts N (x .last) (x .assigned) (r .1))
@@ -161,32 +162,44 @@ module _ (N : ℕ) (x : WeekTables) where
         rises = o .1;
       }
 
-  -- there is one first product
-  pub meets-first : Meets N x → sumBelow N (x .first) ≡ 1
-  meets-first m = facts31 (m .meets31) .0 .0
+  -- a shut week has no product, no first and no last one
+  pub shut-facts : shut N x ≡ true → (count N x ≡ 0) × (sumBelow N (x .first) ≡ 0) × (sumBelow N (x .last) ≡ 0)
+  unfolding shut
+  shut-facts h =
+      let r = and-three (eqb (count N x) 0) (eqb (sumBelow N (x .first)) 0) (eqb (sumBelow N (x .last)) 0) h in
+      (eqb-true (count N x) 0 (r .0), eqb-true (sumBelow N (x .first)) 0 (r .1), eqb-true (sumBelow N (x .last)) 0 (r .2))
+
+  pub facts-shut : count N x ≡ 0 → sumBelow N (x .first) ≡ 0 → sumBelow N (x .last) ≡ 0 → shut N x ≡ true
+  unfolding shut
+  facts-shut e f l =
+      both-and _ _ (both-and _ _ (eq-eqb (count N x) 0 e) (eq-eqb (sumBelow N (x .first)) 0 f)) (eq-eqb (sumBelow N (x .last)) 0 l)
+
+  -- a week with a product is not shut
+  pub not-shut : count N x ≢ 0 → shut N x ≡ false
+  unfolding shut
+  not-shut d = rw (ne-eqb (count N x) 0 d)
+
+  -- rule 31: one first and one last product, or none
+  pub once-or-shut : rule31 N x ≡ true → (oneEach N x ≡ true) ⊎ (shut N x ≡ true)
+  unfolding rule31
+  once-or-shut h = go (oneEach N x) refl h
+    where
+      go : (t : Bool) → oneEach N x ≡ t → t || shut N x ≡ true → (oneEach N x ≡ true) ⊎ (shut N x ≡ true)
+      go true q k = inl q
+      go false q k = inr k
+
+  few-first : (oneEach N x ≡ true) ⊎ (shut N x ≡ true) → sumBelow N (x .first) ≤ 1
+  few-first (inl h) = omega (arith, facts31 h .0 .0)
+  few-first (inr h) = omega (arith, shut-facts h .1)
 
   pub week-facts : Meets N x → WeekFacts N x
-  week-facts m = facts-of (m .is-binary) (omega (arith, meets-first m)) (m .meets32) (m .meets34)
-
-  -- no product, no first one
-  pub shut-facts : shut N x ≡ true
-      → (i : ℕ) → i < N → (x .assigned i ≡ 0) × (x .first i ≡ 0) × (x .last i ≡ 0)
-  unfolding shut
-  shut-facts h i l =
-      let r = and-three (eqb (x .assigned i) 0) (eqb (x .first i) 0) (eqb (x .last i) 0) (all-each N _ h i l) in
-      (eqb-true (x .assigned i) 0 (r .0), eqb-true (x .first i) 0 (r .1), eqb-true (x .last i) 0 (r .2))
-
-  pub facts-shut : ((i : ℕ) → i < N → (x .assigned i ≡ 0) × (x .first i ≡ 0) × (x .last i ≡ 0)) → shut N x ≡ true
-  unfolding shut
-  facts-shut h =
-      each-all N _ (λ i l. both-and _ _ (both-and _ _ (eq-eqb (x .assigned i) 0 (h i l .0)) (eq-eqb (x .first i) 0 (h i l .1)))
-      (eq-eqb (x .last i) 0 (h i l .2)))
+  week-facts m = facts-of (m .is-binary) (few-first (once-or-shut (m .meets31))) (m .meets32) (m .meets34)
 
   -- ---- from the facts to the tests
   module _ (w : WeekFacts N x) where
-    pub holds31 : sumBelow N (x .first) ≡ 1 → rule31 N x ≡ true
-    unfolding rule31
-    holds31 e =
+    pub holds-once : sumBelow N (x .first) ≡ 1 → oneEach N x ≡ true
+    unfolding oneEach
+    holds-once e =
         both-and _ _
         (facts-once N (x .first) (x .assigned) (e, λ i l e. omega (arith, w .into i l, w .assigned-bit i l)))
         (facts-once N (x .last) (x .assigned) (one-last w ∙ e, λ i l e. omega (arith, w .out i l, w .assigned-bit i l)))
@@ -211,17 +224,15 @@ module _ (N : ℕ) (x : WeekTables) where
     pub facts-binary : binary N x ≡ true
     facts-binary = at-binary (λ i l. (w .assigned-bit i l, first-bit w i l, last-bit w i l, w .changeover-bit i l))
 
-    -- with a first product
-    pub facts-meet : sumBelow N (x .first) ≡ 1 → Meets N x
-    facts-meet e =
-        record {
-          is-binary = facts-binary;
-          meets31 = holds31 e;
-          meets32 = holds32;
-          meets34 = holds34;
-        }
+-- tables that agree below N share the facts, and are of a shut week together
+pub shut-agree : (N : ℕ) (x y : WeekTables) → Agree N x y → shut N x ≡ shut N y
+unfolding shut
+shut-agree N x y a =
+    λ u.
+    eqb (sum-ext N (x .assigned) (y .assigned) (a .assigned) u) 0
+    && eqb (sum-ext N (x .first) (y .first) (a .first) u) 0
+    && eqb (sum-ext N (x .last) (y .last) (a .last) u) 0
 
--- tables that agree below N share the facts
 pub facts-agree : (N : ℕ) (x y : WeekTables) → Agree N x y → WeekFacts N y → WeekFacts N x
 facts-agree N x y a w =
     record {

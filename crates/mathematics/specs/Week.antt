@@ -1,8 +1,8 @@
 -- The tables of one week, and the rules 31, 32 and 34 on them as tests. Assumes nothing.
 -- The sentences quoted are those of the paper's list of rules; an equation's number is that of source 004, section 3.
-use Prim.Native.Nat.{ℕ, _+_}
+use Prim.Native.Nat.{ℕ, _+_, _<_}
 use mathlib.Core.Path.{_≡_}
-use mathlib.Core.Bool.{Bool, true, _&&_, cond}
+use mathlib.Core.Bool.{Bool, true, _&&_, _||_, cond}
 use lib.Dec.{eqb, leb}
 use Rattle.mathematics.specs.Below.{sumBelow, allBelow, implies, within}
 
@@ -32,13 +32,17 @@ binary N x =
 unfoldable pub markedOnce : ℕ → (mark assigned : ℕ → ℕ) → Bool
 markedOnce N mark assigned = eqb (sumBelow N mark) 1 && allBelow N (λ i. implies (eqb (mark i) 1) (eqb (assigned i) 1))
 
--- 31: "each week one F and one L, each on a product with E = 1". Equations (2) and (4) for F, (3) and (5) for L
-unfoldable pub rule31 : ℕ → WeekTables → Bool
-rule31 N x = markedOnce N (x .first) (x .assigned) && markedOnce N (x .last) (x .assigned)
+-- "one F and one L, each on a product with E = 1". Equations (2) and (4) for F, (3) and (5) for L
+unfoldable pub oneEach : ℕ → WeekTables → Bool
+oneEach N x = markedOnce N (x .first) (x .assigned) && markedOnce N (x .last) (x .assigned)
 
--- a week of no product: "none of E, F and L"
+-- request 2026-01, a shut week: "none of E, F and L"
 unfoldable pub shut : ℕ → WeekTables → Bool
-shut N x = allBelow N (λ i. eqb (x .assigned i) 0 && eqb (x .first i) 0 && eqb (x .last i) 0)
+shut N x = eqb (count N x) 0 && eqb (sumBelow N (x .first)) 0 && eqb (sumBelow N (x .last)) 0
+
+-- 31, by request 2026-01: "one F and one L, each on a product with E = 1, or none of E, F and L"
+unfoldable pub rule31 : ℕ → WeekTables → Bool
+rule31 N x = oneEach N x || shut N x
 
 -- 32: "Z's diagonal is 0; into j the sum of Z is E − F of j; out of i it is E − L of i". Equations (6) and (7), whose sums pass
 -- over the diagonal. F and L are added on the other side, since a difference of naturals is cut off at 0
@@ -54,6 +58,14 @@ unfoldable pub rule34 : ℕ → WeekTables → Bool
 rule34 N x =
     allBelow N (λ i. cond (eqb (x .assigned i) 0) (eqb (x .position i) 0) (within 1 (count N x) (x .position i)))
     && allBelow N (λ i. allBelow N (λ j. implies (eqb (x .changeover i j) 1) (leb (x .position i + 1) (x .position j))))
+
+-- request 2026-01: "A week may now have no product: its E, F, L, Z .. O .. are 0"
+pub record NoProduct (N : ℕ) (x : WeekTables) : Type 0 where
+  pub assigned : (i : ℕ) → i < N → x .assigned i ≡ 0
+  pub first : (i : ℕ) → i < N → x .first i ≡ 0
+  pub last : (i : ℕ) → i < N → x .last i ≡ 0
+  pub position : (i : ℕ) → i < N → x .position i ≡ 0
+  pub changeover : (i : ℕ) → i < N → (j : ℕ) → j < N → x .changeover i j ≡ 0
 
 -- tables of 0 and 1, with positions, that meet the three rules
 pub record Meets (N : ℕ) (x : WeekTables) : Type 0 where

@@ -1,12 +1,11 @@
--- Sums and tests over rows and columns. Assumes nothing.
+-- Sums over rows and columns. Assumes nothing.
 use Prim.Native.Nat.{ℕ, _+_, _*_, _<_, _≤_}
 use mathlib.Core.Path.{_≡_, _∙_}
-use mathlib.Core.Bool.{Bool, true}
 use native.Mathlib.Omega.{arith}
 use native.Mathlib.Nat.{mul-comm}
 use native.Mathlib.Decide.{ℕ-discrete}
-use Rattle.mathematics.specs.Below.{sumBelow, allBelow}
-use Rattle.mathematics.proofs.Below.{sum-ext, sum-zero, sum-add, sum-mul, sum-only, sum-unique, term-le-sum, all-each, each-all}
+use Rattle.mathematics.specs.Below.{sumBelow}
+use Rattle.mathematics.proofs.Below.{sum-ext, sum-zero, sum-add, sum-mul, sum-only, sum-unique, term-le-sum}
 use Rattle.mathematics.proofs.Tables.{sum-few}
 
 abbrev pub sumGrid : (n m : ℕ) → (ℕ → ℕ → ℕ) → ℕ
@@ -23,12 +22,6 @@ module _ (n m : ℕ) where
 
   pub grid-zero : (f : ℕ → ℕ → ℕ) → ((i j : ℕ) → i < n → j < m → f i j ≡ 0) → sumGrid n m f ≡ 0
   grid-zero f h = sum-zero n (λ i. sumBelow m (f i)) (λ i l. sum-zero m (f i) (λ j k. h i j l k))
-
-  pub all-grid : (p : ℕ → ℕ → Bool) → allBelow n (λ i. allBelow m (p i)) ≡ true → (i j : ℕ) → i < n → j < m → p i j ≡ true
-  all-grid p h i j l k = all-each m (p i) (all-each n (λ u. allBelow m (p u)) h i l) j k
-
-  pub grid-all : (p : ℕ → ℕ → Bool) → ((i j : ℕ) → i < n → j < m → p i j ≡ true) → allBelow n (λ i. allBelow m (p i)) ≡ true
-  grid-all p h = each-all n (λ u. allBelow m (p u)) (λ i l. each-all m (p i) (λ j k. h i j l k))
 
 -- ---- the most that a sum can be
 pub grid-most : {n m p q : ℕ} (b : ℕ) (f : ℕ → ℕ → ℕ) → n ≤ p → m ≤ q → ((i j : ℕ) → i < n → j < m → f i j ≤ b) → sumGrid n m f ≤ p * (q * b)

@@ -1,36 +1,36 @@
 -- The rules are the planning model of source 004: a plan of binary tables passes exactly where it meets the model's constraints and its
 -- profit is the model's objective. Assumes nothing.
-use Prim.Native.Nat.{ℕ, zero, suc, _+_, _*_, _-_, _<_, _≤_}
-use mathlib.Core.Path.{_≡_, refl, sym, ap, _∙_}
-use mathlib.Core.Logic.{_↔_}
-use mathlib.Core.Bool.{true, cond}
+use Prim.Native.Nat.{ℕ, _+_, _*_, _<_, _≤_}
+use mathlib.Core.Path.{_≡_, sym, ap, _∙_}
+use mathlib.Core.Logic.{_↔_, _⊎_, inl, inr}
+use mathlib.Core.Bool.{cond}
 use native.Mathlib.Omega.{arith}
 use native.Mathlib.Nat.{mul-comm}
 use native.Mathlib.Decide.{ℕ-discrete}
 use lib.Dec.{eqb}
 use lib.IntN.{pos, _-ℤ_}
-use borrow.Author.Tests.{eqb-true, eq-eqb, ne-eqb}
+use borrow.Author.Tests.{eq-eqb, ne-eqb}
 use Rattle.mathematics.specs.Below.{sumBelow}
-use Rattle.mathematics.specs.Week.{Meets}
-use Rattle.mathematics.proofs.Below.{sum-ext, sum-zero, sum-add, sum-mul, sum-first, sum-swap, sum-mono, sum-const, and-both, both-and}
-use Rattle.mathematics.proofs.Sums.{bit-zero, all-equal, equal-all}
-use Rattle.mathematics.proofs.WeekRules.{WeekFacts, one-last, facts-meet}
+use Rattle.mathematics.specs.Week.{NoProduct, Meets}
+use Rattle.mathematics.proofs.Below.{sum-ext, sum-zero, sum-add, sum-mul, sum-swap, sum-mono, sum-const}
+use Rattle.mathematics.proofs.Sums.{bit-zero}
+use Rattle.mathematics.proofs.WeekRules.{WeekFacts, one-last}
+use Rattle.mathematics.proofs.WeekPositions.{some-first}
+use Rattle.mathematics.proofs.OrderTheorem.{facts-meet, shut-zero, zero-facts}
 use Rattle.plant_file.specs.Plant.{Plant}
 use Rattle.plant_file.specs.Ranges.{PlantRanges}
 use Rattle.plan_file.specs.Plan.{LinePlan, Plan}
 use Rattle.units.specs.declared.Profit.{Profit}
 use Rattle.rules.specs.declared.Verdict.the-variants.{Passed}
 use Rattle.costs.specs.Changeover.{changeoverBetween}
-use Rattle.rules.specs.Rules.{weekOf, rule33, changeoversUnder, changeoversIn, revenueIn, changeoverChargeIn, backlogChargeIn, inventoryChargeIn, profitOf}
-use Rattle.rules.specs.Words.{words33}
-use Rattle.rules.proofs.Words.{words-33}
+use Rattle.rules.specs.Rules.{weekOf, changeoversUnder, changeoversIn, revenueIn, changeoverChargeIn, backlogChargeIn, inventoryChargeIn, profitOf}
 use Rattle.rules.specs.Verdict.{verdictOf}
-use Rattle.model.specs.Model.{sumOthers, Binary, OrderModel, BetweenModel, Model, objective}
-use Rattle.model.proofs.Grids.{sumGrid, grid-ext, all-grid, grid-all}
-use Rattle.model.proofs.Changeovers.{under-zero}
+use Rattle.model.specs.Model.{sumOthers, Binary, OrderModel, Model, objective}
+use Rattle.model.proofs.Grids.{sumGrid, grid-ext}
 use Rattle.model.proofs.Money.{lose-both}
-use Rattle.model.proofs.RuleFacts.{RulesHold, verdict-rules, rules-verdict, rules-times, amounts-of, rules-hold, profit-of}
-use Rattle.model.proofs.PlanRuns.{plan-facts, plan-first}
+use Rattle.model.proofs.RuleFacts.{RulesHold, verdict-rules, rules-verdict, rules-times, amounts-of}
+use Rattle.model.proofs.RuleFacts.{passage-facts, facts-passage, rules-hold, profit-of}
+use Rattle.model.proofs.PlanRuns.{plan-facts}
 
 -- ---- sums
 -- where the term left out is 0
@@ -63,25 +63,21 @@ module _ (P : Plant) (R : PlantRanges P) where
       ∙ sym (sum-ext N (λ i. sumOthers N i (total i)) (λ i. sumBelow N (total i)) (λ i l.
       others-all N i (total i) (λ k. sum-zero n (λ w. c i i * marks w i i) (λ w m. rw (R .line .cents-diagonal i l) (omega arith))))))
 
-  module _ (x : Plan) (none : (i j : ℕ) → i < P .products → j < P .products → x .line .weekChangeover 0 i j ≡ 0) where
-    -- over the weeks: changeovers within them, and between them from the second week on
+  module _ (x : Plan) where
+    -- over the weeks: changeovers within them and between them
     changeover-cents : sumBelow (P .weeks) (changeoverChargeIn P x)
         ≡ 1000 * sumBelow (P .weeks) (λ w. changeoversUnder (P .products) (P .line .changeoverCents) (x .line .changeover w))
-        + 1000 * sumBelow (P .weeks - 1) (λ w. changeoversUnder (P .products) (P .line .changeoverCents) (x .line .weekChangeover (suc w)))
+        + 1000 * sumBelow (P .weeks) (λ w. changeoversUnder (P .products) (P .line .changeoverCents) (x .line .weekChangeover w))
     unfolding changeoverChargeIn changeoversIn
     changeover-cents =
         let W = P .weeks in
         let within : ℕ → ℕ = λ w. changeoversUnder (P .products) (P .line .changeoverCents) (x .line .changeover w) in
         let between : ℕ → ℕ = λ w. changeoversUnder (P .products) (P .line .changeoverCents) (x .line .weekChangeover w) in
-        let e : suc (W - 1) ≡ W = omega (arith, R .weeks-least) in
         omega (
           arith,
           sum-ext W (λ w. 1000 * (within w + between w)) (λ w. (within w + between w) * 1000) (λ w l. omega arith),
           sum-mul W (λ w. within w + between w) 1000,
           sum-add W within between,
-          ap (λ (n : ℕ). sumBelow n between) e,
-          sum-first (W - 1) between,
-          under-zero (P .products) (P .line .changeoverCents) (x .line .weekChangeover 0) none,
         )
 
     objective-profit : profitOf P x (P .weeks) ≡ objective P x
@@ -89,7 +85,7 @@ module _ (P : Plant) (R : PlantRanges P) where
     objective-profit =
         let W = P .weeks in
         let within = cents-under W (x .line .changeover) in
-        let between = cents-under (W - 1) (λ w. x .line .weekChangeover (suc w)) in
+        let between = cents-under W (x .line .weekChangeover) in
         let s = weeks-grid W (P .customers) (P .products) (λ c i w. P .price c i * x .sales c i w) in
         let d = weeks-grid W (P .customers) (P .products) (λ c i w. P .backlogCost c i * x .backlog c i w) in
         let v = sum-swap W (P .products) (λ w i. P .inventoryCost i * x .inventory w i) in
@@ -100,9 +96,9 @@ module _ (P : Plant) (R : PlantRanges P) where
 
 -- ---- the constraints on the order of one week
 module _ (N : ℕ) (x : LinePlan) (w : ℕ) where
-  facts-model : WeekFacts N (weekOf x w) → sumBelow N (x .first w) ≡ 1 → OrderModel N x w
+  facts-order : WeekFacts N (weekOf x w) → sumBelow N (x .first w) ≡ 1 → OrderModel N x w
   unfolding weekOf
-  facts-model f one =
+  facts-order f one =
       let z = x .changeover w in
       let self : (i : ℕ) → i < N → z i i ≡ 0 = λ i l. bit-zero (z i i) (f .changeover-bit i l i l) (λ e. omega (arith, f .rises i l i l e)) in
       let most : (i : ℕ) → i < N → x .position w i ≤ N =
@@ -127,10 +123,19 @@ module _ (N : ℕ) (x : LinePlan) (w : ℕ) where
         most-index = f .high;
       }
 
-  model-facts : ((i : ℕ) → i < N → x .assigned w i ≤ 1) → ((i j : ℕ) → i < N → j < N → x .changeover w i j ≤ 1) → OrderModel N x w
-      → WeekFacts N (weekOf x w)
+  -- there is a product, or none at all
+  facts-model : WeekFacts N (weekOf x w) → OrderModel N x w ⊎ NoProduct N (weekOf x w)
   unfolding weekOf
-  model-facts assigned changeover m =
+  facts-model f = elim (ℕ-discrete (sumBelow N (x .assigned w)) 0) [
+    | yes e ↦ inr (shut-zero N (weekOf x w) f e)
+    | no d ↦ inl (facts-order f (some-first N (weekOf x w) f (omega arith)))
+  ]
+
+  model-facts : ((i : ℕ) → i < N → x .assigned w i ≤ 1) → ((i j : ℕ) → i < N → j < N → x .changeover w i j ≤ 1)
+      → OrderModel N x w ⊎ NoProduct N (weekOf x w) → WeekFacts N (weekOf x w)
+  unfolding weekOf
+  model-facts assigned changeover (inr m) = zero-facts N (weekOf x w) m
+  model-facts assigned changeover (inl m) =
       let z = x .changeover w in
       record {
         assigned-bit = assigned;
@@ -144,54 +149,32 @@ module _ (N : ℕ) (x : LinePlan) (w : ℕ) where
         rises = λ i k j n e. omega (arith, rw e at (m .rises i j k n));
       }
 
--- ---- the constraints on changeovers between weeks are rule 33 in the paper's words
-module _ (N : ℕ) (x : LinePlan) where
-  none-of : words33 N x 0 ≡ true → (i j : ℕ) → i < N → j < N → x .weekChangeover 0 i j ≡ 0
-  none-of h i j k m = eqb-true (x .weekChangeover 0 i j) 0 (all-grid N N (λ i j. eqb (x .weekChangeover 0 i j) 0) h i j k m)
-
-  between-of : (w : ℕ) → words33 N x (suc w) ≡ true → BetweenModel N x w
-  between-of w h = let b = and-both _ _ h in record { into-first = all-equal N _ _ (b .0); out-of-last = all-equal N _ _ (b .1) }
-
-  words-of : ((i j : ℕ) → i < N → j < N → x .weekChangeover 0 i j ≡ 0) → (w : ℕ) → ((v : ℕ) → suc v ≡ w → BetweenModel N x v) → words33 N x w ≡ true
-  words-of none zero b = grid-all N N (λ i j. eqb (x .weekChangeover 0 i j) 0) (λ i j k m. eq-eqb (x .weekChangeover 0 i j) 0 (none i j k m))
-  words-of none (suc w) b = let m = b w refl in both-and _ _ (equal-all N _ _ (m .into-first)) (equal-all N _ _ (m .out-of-last))
-
 -- ---- the whole plan
 module _ (P : Plant) (R : PlantRanges P) (x : Plan) where
   module _ (r : RulesHold P x) where
-    words : (w : ℕ) → w < P .weeks → words33 (P .products) (x .line) w ≡ true
-    words w l = sym (words-33 (P .products) (P .line) (x .line) (P .weeks) (r .r31) w l) ∙ r .r33 w l
-
     rules-profit : x .profit ≡ objective P x
-    rules-profit = profit-of P x r ∙ objective-profit P R x (none-of (P .products) (x .line) (words 0 (R .weeks-least)))
+    rules-profit = profit-of P x r ∙ objective-profit P R x
 
     rules-model : Binary P x → Model P x
     rules-model b =
         record {
           binary = b;
-          order = λ w l. facts-model (P .products) (x .line) w (plan-facts P x b r w l) (plan-first P x b r w l);
+          order = λ w l. facts-model (P .products) (x .line) w (plan-facts P x b r w l);
           times = rules-times P x r;
           amounts = amounts-of P x r;
-          none-before = λ i j l. none-of (P .products) (x .line) (words 0 l) i j;
-          between = λ w l. between-of (P .products) (x .line) w (words (suc w) l);
+          between = λ w l. passage-facts (P .products) (P .line) (x .line) w (r .r33 w l);
         }
 
   module _ (m : Model P x) where
     meets : (w : ℕ) → w < P .weeks → Meets (P .products) (weekOf (x .line) w)
-    unfolding weekOf
     meets w l =
         facts-meet (P .products) (weekOf (x .line) w)
         (model-facts (P .products) (x .line) w (λ i. m .binary .assigned w i l) (λ i j. m .binary .changeover w i j l) (m .order w l))
-        (m .order w l .one-first)
-
-    passages : (w : ℕ) → w < P .weeks → rule33 (P .products) (P .line) (x .line) w ≡ true
-    passages w l =
-        words-33 (P .products) (P .line) (x .line) (P .weeks) (λ v k. meets v k .meets31) w l
-        ∙ words-of (P .products) (x .line) (λ i j. m .none-before i j (omega arith)) w (λ v e. m .between v (omega arith))
 
     model-holds : x .profit ≡ objective P x → RulesHold P x
     model-holds e =
-        rules-hold P x meets passages (m .times) (m .amounts) (e ∙ sym (objective-profit P R x (λ i j. m .none-before i j (R .weeks-least))))
+        rules-hold P x meets (λ w l. facts-passage (P .products) (P .line) (x .line) w (m .between w l)) (m .times) (m .amounts)
+        (e ∙ sym (objective-profit P R x))
 
 -- a plan of binary tables passes exactly where it meets the constraints of the model and its profit is the objective
 pub model-rules : {P : Plant} → PlantRanges P → {x : Plan} → Binary P x

@@ -9,10 +9,10 @@ use Rattle.mathematics.specs.Below.{sumBelow}
 use Rattle.mathematics.specs.Week.{Meets}
 use Rattle.mathematics.specs.Order.{orderOf, orderTables, Agree, assignedIn, firstIn}
 use Rattle.mathematics.proofs.Below.{sum-ext, sum-mono, sum-const}
-use Rattle.mathematics.proofs.WeekRules.{WeekFacts, meets-first, week-facts, at-binary}
+use Rattle.mathematics.proofs.WeekRules.{WeekFacts, week-facts, at-binary}
 use Rattle.mathematics.proofs.OrderTables.{OrderFacts, order-facts}
 use Rattle.mathematics.proofs.OrderTheorem as theorem
-use Rattle.mathematics.proofs.OrderTheorem.{shown-order, shown-some, shown-tables}
+use Rattle.mathematics.proofs.OrderTheorem.{shown-order, shown-tables}
 use Rattle.plant_file.specs.Plant.{Plant}
 use Rattle.plant_file.specs.Ranges.{PlantRanges}
 use Rattle.plan_file.specs.Plan.{Plan}
@@ -65,10 +65,6 @@ module _ (P : Plant) (x : Plan) (b : Binary P x) (r : RulesHold P x) where
     pub plan-facts : WeekFacts (P .products) (weekOf (x .line) w)
     plan-facts = week-facts (P .products) (weekOf (x .line) w) plan-meets
 
-    pub plan-first : sumBelow (P .products) (x .line .first w) ≡ 1
-    unfolding weekOf
-    plan-first = meets-first (P .products) (weekOf (x .line) w) plan-meets
-
     -- the order of the slots shown
     order-is : orderOfSlots (S .line .week w) ≡ orderOf (P .products) (weekOf (x .line) w)
     unfolding slotsShown lineShown
@@ -107,7 +103,6 @@ module _ (P : Plant) (x : Plan) (b : Binary P x) (r : RulesHold P x) where
         let n = order-length (S .line .week w) in
         let m = ap length order-is in
         record {
-          some = omega (arith, shown-some (P .products) (weekOf (x .line) w) plan-meets);
           few = omega (
             arith,
             theorem.order-length (P .products) (weekOf (x .line) w),
@@ -124,15 +119,15 @@ module _ (P : Plant) (x : Plan) (b : Binary P x) (r : RulesHold P x) where
   unfolding weekOf
   between-same w l i j k m =
       let h = passage-facts (P .products) (P .line) (x .line) w (r .r33 w l) in
-      let before : (i : ℕ) → i < P .products → mountedBefore (P .line) (x .line) w i ≡ isMounted (mountedAt P S w) i =
-      mounted-marks P S (x .line) (P .weeks) formed (λ v i a b. plan-agree v a .last i b) w (omega arith) in
-      let one : sumBelow (P .products) (mountedBefore (P .line) (x .line) w) ≤ 1 =
+      let before : (i : ℕ) → i < P .products → mountedBefore (P .products) (P .line) (x .line) w i ≡ isMounted (mountedAt P S w) i =
+      mounted-marks P S (x .line) (P .weeks) formed plan-agree w (omega arith) in
+      let one : sumBelow (P .products) (mountedBefore (P .products) (P .line) (x .line) w) ≤ 1 =
       omega (
         arith,
-        sum-ext (P .products) (mountedBefore (P .line) (x .line) w) (isMounted (mountedAt P S w)) before,
+        sum-ext (P .products) (mountedBefore (P .products) (P .line) (x .line) w) (isMounted (mountedAt P S w)) before,
         mounted-one (P .products) (mountedAt P S w) (mounted-below P S w (λ u a. formed u (omega arith))),
       ) in
-      crossed (P .products) (x .line .first w) (mountedBefore (P .line) (x .line) w) (x .line .weekChangeover w)
+      crossed (P .products) (x .line .first w) (mountedBefore (P .products) (P .line) (x .line) w) (x .line .weekChangeover w)
       (plan-facts w l .one-first) one (h .into-first) (h .out-of-mounted) i j k m
       ∙ (λ u. before i k u * plan-agree w l .first j m u)
 

@@ -17,12 +17,12 @@ use Rattle.units.specs.declared.Profit.{Profit}
 use Rattle.costs.specs.Changeover.{changeoverBetween}
 use Rattle.rules.specs.declared.Verdict.{Verdict}
 use Rattle.rules.specs.declared.Verdict.the-variants.{Passed}
-use Rattle.rules.specs.Rules.{weekOf, mountedBefore, rule33, rule35, rule36, rule37, rule38, rule39, rule40, rule41, changeoversUnder, changeoversIn}
+use Rattle.rules.specs.Rules.{weekOf, rule33, rule35, rule36, rule37, rule38, rule39, rule40, rule41, changeoversUnder, changeoversIn}
 use Rattle.rules.specs.Rules.{backlogBefore, inventoryBefore, profitOf}
 use Rattle.rules.specs.Verdict.{Trial, rule, trials, tried, profitTried, verdictOf}
-use Rattle.model.specs.Model.{TimeModel, AmountModel}
+use Rattle.model.specs.Model.{TimeModel, BetweenModel, AmountModel}
 use Rattle.model.proofs.Money.{same-equal, equal-same}
-use Rattle.model.proofs.Grids.{all-grid, grid-all}
+use Rattle.mathematics.proofs.Tables.{all-grid, grid-all}
 use Rattle.model.proofs.Changeovers.{under-add}
 
 -- ---- the verdict
@@ -111,19 +111,15 @@ module _ (n m : ℕ) (f g : ℕ → ℕ → ℕ) where
   equal-grid h = grid-all n m (λ u v. eqb (f u v) (g u v)) (λ i j l k. eq-eqb (f i j) (g i j) (h i j l k))
 
 -- ---- the rules of a line
--- 33, by what is mounted before the week
-pub record PassageFacts (N : ℕ) (l : LinePlant) (x : LinePlan) (w : ℕ) : Type 0 where
-  pub into-first : (j : ℕ) → j < N → sumBelow N (λ i. x .weekChangeover w i j) ≡ x .first w j * sumBelow N (mountedBefore l x w)
-  pub out-of-mounted : (i : ℕ) → i < N → sumBelow N (λ j. x .weekChangeover w i j) ≡ mountedBefore l x w i * sumBelow N (x .first w)
-
 module _ (N : ℕ) (l : LinePlant) (x : LinePlan) (w : ℕ) where
-  pub passage-facts : rule33 N l x w ≡ true → PassageFacts N l x w
+  -- 33
+  pub passage-facts : rule33 N l x w ≡ true → BetweenModel N l x w
   unfolding rule33
   passage-facts h =
       let b = and-both _ _ h in
       record { into-first = all-equal N _ _ (b .0); out-of-mounted = all-equal N _ _ (b .1) }
 
-  pub facts-passage : PassageFacts N l x w → rule33 N l x w ≡ true
+  pub facts-passage : BetweenModel N l x w → rule33 N l x w ≡ true
   unfolding rule33
   facts-passage b = both-and _ _ (equal-all N _ _ (b .into-first)) (equal-all N _ _ (b .out-of-mounted))
 

@@ -7,12 +7,13 @@ use native.Mathlib.Omega.{arith}
 use native.Mathlib.Decide.{ℕ-discrete}
 use Rattle.mathematics.specs.Order.{isOrder, assignedIn, firstIn}
 use Rattle.mathematics.proofs.OrderTables.{an-order}
+use Rattle.mathematics.proofs.OrderTheorem.{agree-refl}
 use Rattle.plant_file.specs.Plant.{Plant}
 use Rattle.plant_file.specs.Ranges.{PlantRanges}
 use Rattle.slot_file.specs.Slots.{Slot, orderOfSlots, WeekFormed, Slots}
 use Rattle.slot_file.proofs.Orders.{order-below}
-use Rattle.machine.specs.Run.{ranWeek, after}
-use Rattle.rules.specs.Rules.{mountedBefore, rule33}
+use Rattle.machine.specs.Run.{ranWeek}
+use Rattle.rules.specs.Rules.{weekOf, mountedBefore, rule33}
 use Rattle.costs.specs.Mounted.{isMounted}
 use Rattle.model.specs.RunTables.{minutesOf, lineTables, mountedAt, runTables}
 use Rattle.model.specs.Model.{AmountModel}
@@ -83,13 +84,13 @@ module _ (P : Plant) (R : PlantRanges P) (S : Slots) where
   -- ---- 33
   module _ (n : ℕ) (f : FormedTo P S n) where
     pub run-passages : (w : ℕ) → w < n → rule33 (P .products) (P .line) (runTables P S .line) w ≡ true
-    unfolding runTables lineTables
+    unfolding runTables lineTables weekOf
     run-passages w l =
         let x = lineTables (mountedAt P S) (S .line) in
         let first = firstIn (orderOfSlots (S .line .week w)) in
-        let before = mountedBefore (P .line) x w in
+        let before = mountedBefore (P .products) (P .line) x w in
         let cells : (i j : ℕ) → i < P .products → j < P .products → isMounted (mountedAt P S w) i * first j ≡ before i * first j =
-        λ i j k m. ap (λ (u : ℕ). u * first j) (sym (mounted-marks P S x n f (λ v i a b. refl) w (omega arith) i k)) in
+        λ i j k m. ap (λ (u : ℕ). u * first j) (sym (mounted-marks P S x n f (λ v a. agree-refl (P .products) (weekOf x v)) w (omega arith) i k)) in
         facts-passage (P .products) (P .line) x w (record {
           into-first = columns-sum (P .products) first before (x .weekChangeover w) cells;
           out-of-mounted = rows-sum (P .products) first before (x .weekChangeover w) cells;

@@ -2,17 +2,20 @@
 -- Assumes nothing.
 use Prim.Native.Nat.{ℕ, zero, suc, _+_, _*_, _-_, _<_, _≤_}
 use mathlib.Core.Path.{_≡_, refl, sym, ap, _∙_}
+use mathlib.Core.Bool.{cond}
 use mathlib.Core.List.{List, [], _∷_}
 use native.Mathlib.Omega.{arith}
-use lib.ListN.{length, getD}
+use lib.ListN.{getD}
 use lib.IntN.{ℤ, pos, _+ℤ_, _-ℤ_, +ℤ-idr}
 use Rattle.mathematics.specs.Below.{sumBelow}
-use Rattle.mathematics.specs.Order.{ProductsBelow, lastIn}
+use Rattle.mathematics.specs.Week.{WeekTables, shut}
+use Rattle.mathematics.specs.Order.{ProductsBelow, lastIn, orderTables, Agree}
+use Rattle.mathematics.proofs.OrderTheorem.{agree-shut, agree-not-shut}
 use Rattle.plant_file.specs.Plant.{LinePlant, Plant}
 use Rattle.plant_file.specs.Ranges.{PlantRanges}
 use Rattle.plan_file.specs.Plan.{LinePlan}
 use Rattle.slot_file.specs.Slots.{Slot, orderOfSlots, WeekFormed, Slots}
-use Rattle.slot_file.proofs.Orders.{order-length, order-below}
+use Rattle.slot_file.proofs.Orders.{order-below}
 use Rattle.costs.specs.Money.{changeoverChargeOf}
 use Rattle.costs.proofs.Changeovers.{opening-below}
 use Rattle.costs.specs.declared.Mounted.{Mounted}
@@ -23,8 +26,10 @@ use Rattle.costs.specs.Changeover.{changeoverTo}
 use Rattle.machine.specs.Machine.{clockAfter, weekBegin, slotDone, weekInput, inventoryAfter, backlogAfter, booked, weekDone}
 use Rattle.costs.specs.Mounted.{mountedBelow}
 use Rattle.machine.specs.Run.{opening, slotsDone, ranWeek, after}
-use Rattle.rules.specs.Rules.{mountedBefore, changeoversIn, backlogBefore, inventoryBefore, revenueIn, changeoverChargeIn, backlogChargeIn, inventoryChargeIn}
+use Rattle.rules.specs.Rules.{weekOf, productionEnd, mountedAfter, mountedBefore, changeoversIn, backlogBefore, inventoryBefore}
+use Rattle.rules.specs.Rules.{revenueIn, changeoverChargeIn, backlogChargeIn, inventoryChargeIn}
 use Rattle.rules.specs.Rules.{profitOf}
+use Rattle.rules.proofs.Weeks.{mounted-next}
 use Rattle.costs.specs.Mounted.{isMounted}
 use Rattle.model.specs.RunTables.{lastOf, minutesOf, lineTables, mountedAt, runTables}
 use Rattle.model.proofs.States.{Lengths, opening-lengths, begin-lengths, slot-lengths, week-lengths}
@@ -76,10 +81,16 @@ slots-inventory P R (x ∷ xs) s h k i =
     )
 
 -- what is mounted after some products is the last of them
-last-any : (m : Mounted) (ps : List ℕ) (i : ℕ) → 0 < length ps → isMounted (lastOf m ps) i ≡ lastIn ps i
-last-any m [] i h = absurd (omega arith)
-last-any m (p ∷ []) i h = refl
-last-any m (p ∷ q ∷ ps) i h = last-any (Product p) (q ∷ ps) i (omega arith)
+last-any : (m : Mounted) (p : ℕ) (ps : List ℕ) (i : ℕ) → isMounted (lastOf m (p ∷ ps)) i ≡ lastIn (p ∷ ps) i
+last-any m p [] i = refl
+last-any m p (q ∷ ps) i = last-any (Product p) q ps i
+
+-- after none it is what was mounted before: a week of these products, by its tables
+mounted-step : (N : ℕ) (m : Mounted) (ps : List ℕ) (y : WeekTables) → ProductsBelow N ps → Agree N y (orderTables ps)
+    → (before i : ℕ) → i < N → before ≡ isMounted m i → cond (shut N y) before (y .last i) ≡ isMounted (lastOf m ps) i
+mounted-step N m [] y b a before i l e = rw (agree-shut N y a) e
+mounted-step N m (p ∷ ps) y b a before i l e =
+    rw (agree-not-shut N y p ps (b 0 (omega arith)) a) (a .last i l ∙ sym (last-any m p ps i))
 
 -- ---- week by week
 module _ (P : Plant) (S : Slots) where
@@ -116,18 +127,16 @@ module _ (P : Plant) (S : Slots) where
       rw (after-mounted n) (last-below (P .products) (mountedAt P S n) (order n)
       (mounted-below n (λ w l. f w (omega arith))) (order-below (P .products) (S .line .week n) (f n (omega arith))))
 
-  -- what is mounted when a later week begins is the last product of the week before
-  mounted-last : (w : ℕ) → WeekFormed (P .products) (S .line .week w) → (i : ℕ) → isMounted (mountedAt P S (suc w)) i ≡ lastIn (order w) i
-  mounted-last w f i =
-      ap (λ (m : Mounted). isMounted m i) (after-mounted w)
-      ∙ last-any (mountedAt P S w) (order w) i (omega (arith, f .some, order-length (S .line .week w)))
-
-  -- what is mounted before a week, by the tables of a plan that has these last products
-  pub mounted-marks : (x : LinePlan) (n : ℕ) → FormedTo n → ((w i : ℕ) → w < n → i < P .products → x .last w i ≡ lastIn (order w) i)
-      → (w : ℕ) → w ≤ n → (i : ℕ) → i < P .products → mountedBefore (P .line) x w i ≡ isMounted (mountedAt P S w) i
-  unfolding mountedBefore opening
-  mounted-marks x n f last zero l i k = refl
-  mounted-marks x n f last (suc w) l i k = last w i l k ∙ sym (mounted-last w (f w l) i)
+  -- what is mounted before a week, by the tables of a plan that has these orders
+  pub mounted-marks : (x : LinePlan) (n : ℕ) → FormedTo n → ((w : ℕ) → w < n → Agree (P .products) (weekOf x w) (orderTables (order w)))
+      → (w : ℕ) → w ≤ n → (i : ℕ) → i < P .products → mountedBefore (P .products) (P .line) x w i ≡ isMounted (mountedAt P S w) i
+  unfolding mountedBefore mountedAfter productionEnd opening weekOf
+  mounted-marks x n f a zero l i k = refl
+  mounted-marks x n f a (suc w) l i k =
+      mounted-next (P .products) x (P .line) w i
+      ∙ (mounted-step (P .products) (mountedAt P S w) (order w) (weekOf x w) (order-below (P .products) (S .line .week w) (f w l)) (a w l) _ i k
+      (mounted-marks x n f a w (omega arith) i k)
+      ∙ sym (ap (λ (m : Mounted). isMounted m i) (after-mounted w)))
 
   -- changeovers by the tables
   pub changeover-total : (table : ℕ → ℕ → ℕ) (w : ℕ) → FormedTo w → WeekFormed (P .products) (S .line .week w)

@@ -1,18 +1,20 @@
 -- Plans with the same tables meet the same rules. Assumes nothing.
 use Prim.Native.Nat.{ℕ, zero, suc, _*_, _<_, _≤_}
 use mathlib.Core.Path.{_≡_, refl, sym, ap, _∙_}
-use mathlib.Core.Bool.{true}
+use mathlib.Core.Bool.{true, cond}
 use native.Mathlib.Omega.{arith}
 use lib.IntN.{pos, _-ℤ_}
 use Rattle.mathematics.specs.Order.{Agree}
 use Rattle.mathematics.proofs.Below.{sum-ext}
+use Rattle.mathematics.proofs.WeekRules.{shut-agree}
 use Rattle.plant_file.specs.Plant.{LinePlant, Plant}
 use Rattle.plan_file.specs.Plan.{LinePlan, Plan, Same2, Same3, SameLinePlan, SamePlan}
 use Rattle.sections.specs.declared.Shape.{Shape}
 use Rattle.costs.specs.Changeover.{changeoverBetween}
 use Rattle.costs.specs.Money.{changeoverChargeOf}
-use Rattle.rules.specs.Rules.{weekOf, mountedBefore, rule33, changeoversUnder, changeoversIn, backlogBefore, inventoryBefore}
+use Rattle.rules.specs.Rules.{weekOf, productionEnd, mountedAfter, mountedBefore, rule33, changeoversUnder, changeoversIn, backlogBefore, inventoryBefore}
 use Rattle.rules.specs.Rules.{revenueIn, changeoverChargeIn, backlogChargeIn, inventoryChargeIn, profitOf}
+use Rattle.rules.proofs.Weeks.{mounted-next}
 use Rattle.model.specs.Model.{TimeModel, AmountModel}
 use Rattle.model.specs.Match.{shapeOfPlant}
 use Rattle.model.proofs.Grids.{grid-ext}
@@ -66,10 +68,14 @@ module _ {f : Shape} {x y : LinePlan} (m : SameLinePlan f x y) (w : ℕ) (l : w 
       }
 
 mounted-same : {f : Shape} {x y : LinePlan} → SameLinePlan f x y → (line : LinePlant) (w : ℕ) → w < f .weeks → (i : ℕ) → i < f .products
-    → mountedBefore line x w i ≡ mountedBefore line y w i
-unfolding mountedBefore
+    → mountedBefore (f .products) line x w i ≡ mountedBefore (f .products) line y w i
+unfolding mountedBefore mountedAfter productionEnd
 mounted-same m line zero l i k = refl
-mounted-same m line (suc w) l i k = m .last w i (omega arith) k
+mounted-same {f} {x} {y} m line (suc w) l i k =
+    let same = shut-agree (f .products) (weekOf x w) (weekOf y w) (week-agree m w (omega arith)) in
+    let earlier = mounted-same m line w (omega arith) i k in
+    mounted-next (f .products) x line w i
+    ∙ ((λ u. cond (same u) (earlier u) (m .last w i (omega arith) k u)) ∙ sym (mounted-next (f .products) y line w i))
 
 pub passages-same : {f : Shape} {x y : LinePlan} → SameLinePlan f x y → (line : LinePlant) (w : ℕ) → w < f .weeks
     → rule33 (f .products) line y w ≡ true → rule33 (f .products) line x w ≡ true
@@ -78,7 +84,7 @@ passages-same {f} {x} {y} m line w l h =
     let r = passage-facts N line y w h in
     let z = m .weekChangeover w in
     let before = mounted-same m line w l in
-    let all = sum-ext N (mountedBefore line x w) (mountedBefore line y w) before in
+    let all = sum-ext N (mountedBefore N line x w) (mountedBefore N line y w) before in
     let first = sum-ext N (x .first w) (y .first w) (λ i k. m .first w i l k) in
     facts-passage N line x w (record {
       into-first = λ j k.

@@ -1,9 +1,9 @@
--- P1 to P12 of the small plant, together, by computation. Assumes nothing.
+-- P1 to P13 of the small plant, together, by computation. Assumes nothing.
 use mathlib.Core.Path.{_≡_, refl}
 use mathlib.Core.List.{[], _∷_, map}
 use lib.IntN.{pos}
 use Rattle.mathematics.specs.Below.{is}
-use Rattle.mathematics.specs.Week.{markedOnce, rule31, rule32, rule34}
+use Rattle.mathematics.specs.Week.{markedOnce, oneEach, shut, rule31, rule32, rule34}
 use Rattle.machine.specs.declared.Outcome.the-variants.{Continues, Stops}
 use Rattle.machine.specs.State.{inventoryOf, backlogOf, hasRun, withInventory, withBacklog, withLine, withWeek, withProfit, withMounted}
 use Rattle.machine.specs.Machine.{weekBegin, clockAfter, slotDone, slotStops, slotStep, salesDue, backlogAfter}
@@ -11,7 +11,8 @@ use Rattle.machine.specs.Machine.{salesInStock, inventoryAfter, storageKept, bo
 use Rattle.machine.specs.Machine.{weekDone, weekEnd}
 use Rattle.machine.specs.Run.{opening, runWeek, run, ranWeek}
 use Rattle.rules.specs.declared.Verdict.the-variants.{Passed, Broken}
-use Rattle.rules.specs.Rules.{weekOf, mountedBefore, rule33, rule35, rule36, rule37, rule38, rule39, rule40, rule41, changeoversUnder, changeoversIn}
+use Rattle.rules.specs.Rules.{weekOf, productionEnd, mountedAfter, mountedBefore, rule33, rule35, rule36, rule37, rule38, rule39, rule40, rule41}
+use Rattle.rules.specs.Rules.{changeoversUnder, changeoversIn}
 use Rattle.rules.specs.Rules.{backlogBefore, inventoryBefore, revenueIn, changeoverChargeIn, backlogChargeIn, inventoryChargeIn, profitOf}
 use Rattle.costs.specs.Mounted.{openingMounted}
 use Rattle.costs.specs.Changeover.{changeoverBetween}
@@ -30,14 +31,16 @@ pub small-plant-facts : map factOf smallCases
     ∷ ran (Broken 36) (Stops 36)
     ∷ ran (Broken 39) (Stops 39)
     ∷ ran (Broken 38) (Stops 38)
-    ∷ judged (Broken 31)
+    ∷ ran (Broken 39) (Stops 39)
     ∷ ran (Passed (record { 0 = pos 8650000 })) Continues
     ∷ ran (Broken 40) (Stops 40)
+    ∷ ran (Passed (record { 0 = pos 4500000 })) Continues
     ∷ []
 small-plant-facts =
     unfold smallPlant threeProducts ring smallSlots slotsOfB small.withProfit smallCases lineTables runTables in
     unfold inventoryOf backlogOf hasRun withInventory withBacklog withLine withWeek withProfit withMounted weekBegin clockAfter slotDone slotStops slotStep in
     unfold salesDue backlogAfter salesInStock inventoryAfter storageKept booked weekDone weekEnd opening runWeek run ranWeek in
-    unfold is markedOnce rule31 rule32 rule34 weekOf mountedBefore rule33 rule35 rule36 rule37 rule38 rule39 rule40 rule41 trials tried profitTried verdictOf in
+    unfold is markedOnce oneEach shut rule31 rule32 rule34 weekOf productionEnd mountedAfter mountedBefore in
+    unfold rule33 rule35 rule36 rule37 rule38 rule39 rule40 rule41 trials tried profitTried verdictOf in
     unfold openingMounted changeoverBetween changeoversUnder changeoversIn backlogBefore inventoryBefore revenueIn changeoverChargeIn backlogChargeIn inventoryChargeIn profitOf in
     refl

@@ -26,7 +26,7 @@ use Rattle.machine.proofs.Steps.{met-none, SlotContinues, slot-continues, slot-
 use Rattle.machine.proofs.Runs.{continued-step, then-continued}
 use Rattle.model.specs.RunTables.{minutesOf}
 use Rattle.model.proofs.States.{Lengths, mark, begin-lengths, slot-lengths, slot-ran, slot-clock, begin-clock, kept-inventory}
-use Rattle.model.proofs.Grids.{all-grid, grid-all}
+use Rattle.mathematics.proofs.Tables.{all-grid, grid-all}
 use Rattle.model.proofs.Changeovers.{no-minutes}
 use Rattle.model.proofs.RunStates.{slots-clock, ran, after-lengths}
 

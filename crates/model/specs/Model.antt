@@ -1,14 +1,16 @@
 -- The planning model of source 004, section 3, as paper 01 amends it: its constraints on a plan's tables, and its objective.
 -- Each field or definition cites its equation number; weeks count from 0 here, from 1 in the source. Assumes nothing.
-use Prim.Native.Nat.{ℕ, suc, _+_, _*_, _-_, _≤_, _<_}
+use Prim.Native.Nat.{ℕ, _+_, _*_, _-_, _≤_, _<_}
 use mathlib.Core.Path.{_≡_}
+use mathlib.Core.Logic.{_⊎_}
 use mathlib.Core.Bool.{cond}
 use lib.Dec.{eqb}
 use lib.IntN.{ℤ, pos, _-ℤ_}
 use Rattle.mathematics.specs.Below.{sumBelow}
+use Rattle.mathematics.specs.Week.{NoProduct}
 use Rattle.plant_file.specs.Plant.{LinePlant, Plant}
 use Rattle.plan_file.specs.Plan.{LinePlan, Plan}
-use Rattle.rules.specs.Rules.{backlogBefore, inventoryBefore}
+use Rattle.rules.specs.Rules.{weekOf, mountedBefore, backlogBefore, inventoryBefore}
 
 -- the sum over the indices below n other than k
 abbrev pub sumOthers : ℕ → ℕ → (ℕ → ℕ) → ℕ
@@ -48,14 +50,15 @@ pub record TimeModel (N shortest week : ℕ) (l : LinePlant) (x : LinePlan) (w :
   -- (13): processing times
   pub shortest-run : (i : ℕ) → i < N → shortest * x .assigned w i ≤ x .minutes w i
   pub longest-run : (i : ℕ) → i < N → x .minutes w i ≤ week * x .assigned w i
-  -- (14), and (15) for the first week, whose ZF is 0: processing and changeovers within the week
+  -- (14), and (15) for a week with nothing mounted before, whose ZF is 0: processing and changeovers within the week
   pub time : sumBelow N (x .minutes w)
       + sumBelow N (λ i. sumBelow N (λ j. (x .changeover w i j + x .weekChangeover w i j) * l .changeoverMinutes i j)) ≤ week
 
--- the changeovers between a line's week w and the next: (8), one into the first product, and (9), one out of the last product of the week before
-pub record BetweenModel (N : ℕ) (x : LinePlan) (w : ℕ) : Type 0 where
-  pub into-first : (j : ℕ) → j < N → sumBelow N (λ i. x .weekChangeover (suc w) i j) ≡ x .first (suc w) j
-  pub out-of-last : (i : ℕ) → i < N → sumBelow N (λ j. x .weekChangeover (suc w) i j) ≡ x .last w i
+-- the changeovers into a line's week w: (8), one into the first product, and (9), one out of what is mounted before the week, "the last product
+-- of the last producing week" (request 2026-01); none in a shut week or with nothing mounted
+pub record BetweenModel (N : ℕ) (l : LinePlant) (x : LinePlan) (w : ℕ) : Type 0 where
+  pub into-first : (j : ℕ) → j < N → sumBelow N (λ i. x .weekChangeover w i j) ≡ x .first w j * sumBelow N (mountedBefore N l x w)
+  pub out-of-mounted : (i : ℕ) → i < N → sumBelow N (λ j. x .weekChangeover w i j) ≡ mountedBefore N l x w i * sumBelow N (x .first w)
 
 -- the constraints of week w on its grams
 pub record AmountModel (P : Plant) (x : Plan) (w : ℕ) : Type 0 where
@@ -71,20 +74,19 @@ pub record AmountModel (P : Plant) (x : Plan) (w : ℕ) : Type 0 where
 
 pub record Model (P : Plant) (x : Plan) : Type 0 where
   pub binary : Binary P x
-  pub order : (w : ℕ) → w < P .weeks → OrderModel (P .products) (x .line) w
+  -- request 2026-01: "A week may now have no product"
+  pub order : (w : ℕ) → w < P .weeks → OrderModel (P .products) (x .line) w ⊎ NoProduct (P .products) (weekOf (x .line) w)
   pub times : (w : ℕ) → w < P .weeks → TimeModel (P .products) (P .shortestRun) (P .weekMinutes) (P .line) (x .line) w
   pub amounts : (w : ℕ) → w < P .weeks → AmountModel P x w
-  -- none before the first week
-  pub none-before : (i j : ℕ) → 0 < P .weeks → i < P .products → j < P .products → x .line .weekChangeover 0 i j ≡ 0
-  pub between : (w : ℕ) → suc w < P .weeks → BetweenModel (P .products) (x .line) w
+  pub between : (w : ℕ) → w < P .weeks → BetweenModel (P .products) (P .line) (x .line) w
 
--- (1), in thousandths of a cent: sales, less changeovers within and between weeks (ZF from the second week on), backlog and inventory
+-- (1), in thousandths of a cent: sales, less changeovers within and between weeks, backlog and inventory
 unfoldable pub objective : Plant → Plan → ℤ
 objective P x =
     pos (sumBelow (P .customers) (λ c. sumBelow (P .products) (λ i. sumBelow (P .weeks) (λ w. P .price c i * x .sales c i w))))
     -ℤ pos (1000 * sumBelow (P .products) (λ i. sumOthers (P .products) i (λ j.
     sumBelow (P .weeks) (λ w. P .line .changeoverCents i j * x .line .changeover w i j))))
     -ℤ pos (1000 * sumBelow (P .products) (λ i. sumOthers (P .products) i (λ j.
-    sumBelow (P .weeks - 1) (λ w. P .line .changeoverCents i j * x .line .weekChangeover (suc w) i j))))
+    sumBelow (P .weeks) (λ w. P .line .changeoverCents i j * x .line .weekChangeover w i j))))
     -ℤ pos (sumBelow (P .customers) (λ c. sumBelow (P .products) (λ i. sumBelow (P .weeks) (λ w. P .backlogCost c i * x .backlog c i w))))
     -ℤ pos (sumBelow (P .products) (λ i. sumBelow (P .weeks) (λ w. P .inventoryCost i * x .inventory w i)))

@@ -1,4 +1,4 @@
--- The small plant of paper 01, its slots and plans, and its twelve cases. Assumes nothing.
+-- The small plant of paper 01, its slots and plans, and its thirteen cases, the last by request 2026-01. Assumes nothing.
 use Prim.Native.Nat.{ℕ, suc}
 use mathlib.Core.List.{List, [], _∷_}
 use lib.ListN.{getD}
@@ -140,7 +140,8 @@ smallCases =
     ∷ slotted (smallPlant 2000000) (slotsOfB 5041 3000 150000)  -- P7
     ∷ slotted (smallPlant 2000000) (slotsOfB 2000 3000 150001)  -- P8
     ∷ slotted (smallPlant 2000000) (smallSlots 2000 (runB 3000 ∷ runA 2000 ∷ []) (400001 ∷ 300000 ∷ []) (100000 ∷ 150000 ∷ []))  -- P9
-    ∷ planned (smallPlant 2000000) (runTables (smallPlant 2000000) (smallSlots 2000 [] (400000 ∷ 300000 ∷ []) (100000 ∷ 150000 ∷ [])))  -- P10
+    ∷ slotted (smallPlant 2000000) (smallSlots 2000 [] (400000 ∷ 300000 ∷ []) (100000 ∷ 150000 ∷ []))  -- P10
     ∷ slotted (smallPlant 100000) (slotsOfB 2000 3000 150000)  -- P11
     ∷ slotted (smallPlant 99999) (slotsOfB 2000 3000 150000)  -- P12
+    ∷ slotted (smallPlant 2000000) (smallSlots 2000 [] (400000 ∷ 100000 ∷ []) (100000 ∷ 0 ∷ []))  -- P13
     ∷ []

@@ -25,7 +25,7 @@ weekProduct f plan w k = productAt (f .products) (weekOf (planOf f plan .line) w
 
 -- what is mounted before a week
 unfoldable pub weekMounted : Shape → (plant plan : List ℕ) → ℕ → Mounted
-weekMounted f plant plan w = mountedOf (f .products) (mountedBefore (plantOf f plant .line) (planOf f plan .line) w)
+weekMounted f plant plan w = mountedOf (f .products) (mountedBefore (f .products) (plantOf f plant .line) (planOf f plan .line) w)
 
 -- the slots, and those of a week in running order
 abbrev pub shownIn : Shape → (plan : List ℕ) → Slots

@@ -18,7 +18,8 @@ use plan_file::plan_form;
 use plant_file::plant_form;
 use rules::Verdict;
 use rules::judge;
-use rules::mounted_before;
+use rules::mounted_after;
+use rules::production_end;
 use sections::Form;
 use sections::Shape;
 use units::Profit;
@@ -122,10 +123,11 @@ pub fn mounted_product(plant: &[u8], plan: &[u8], f: Shape, week: usize) -> Moun
     ensures { λ r. ⌜ (r ≡ weekMounted f (now (plant .entry)) (now (plan .entry)) week) × mountedBelow (f .products) r ⌝ }
 {
     let n = numbers::as_usize(f.products);
+    let weeks = production_end(plan, f, week);
     let mut found = Mounted::Nothing;
     let mut product = 0;
     while product < n {
-        let mark = mounted_before(plant, plan, f, week, product);
+        let mark = mounted_after(plant, plan, f, weeks, product);
         found = chosen(mark, product, found);
         product += 1;
     }

@@ -208,6 +208,26 @@ module _ (f : Shape) (place : ℕ) (known : place < 6) (m : Mounted) (ps : List 
       let none : 0 ≡ from - from = omega arith in
       cleared-table 1 columns s (rw one at h) ∙ ap (λ (k : ℕ). store s 0 (encode 1 columns (marks stride rise m ps from k))) none
 
+  -- a week of no product
+  no-marks : length ps ≡ 0 → (j : ℕ) → 0 ≡ markRow (f .products) m ps place j
+  unfolding markRow
+  no-marks e j = go ps e place known
+    where
+      go : (ps : List ℕ) → length ps ≡ 0 → (place : ℕ) → place < 6 → 0 ≡ markRow (f .products) m ps place j
+      go (p ∷ ps) e place l = absurd (omega arith)
+      go [] e zero l = refl
+      go [] e (suc zero) l = refl
+      go [] e (suc (suc zero)) l = refl
+      go [] e (suc (suc (suc zero))) l = refl
+      go [] e (suc (suc (suc (suc zero)))) l = omega arith
+      go [] e (suc (suc (suc (suc (suc zero))))) l = refl
+      go [] e (suc (suc (suc (suc (suc (suc place)))))) l = absurd (omega arith)
+
+  pub shut-stored : Cleared columns s → length ps ≡ 0 → s ≡ store s 0 (encode 1 columns (markRow (f .products) m ps place))
+  shut-stored h e =
+      let one : columns ≡ 1 * columns = omega arith in
+      cleared-table 1 columns s (rw one at h) ∙ ap (store s 0) (encode-ext 1 columns _ _ (λ j l. no-marks e j))
+
   pub one-stored : (stride rise from k b p : ℕ) (out : List ℕ) → stride ≡ strideIn (f .products) place → OrderFacts (f .products) ps
       → from ≤ k → k < length ps → b < f .products → b ≡ fromOf m ps k → p ≡ orderAt ps k
       → out ≡ store s 0 (encode 1 columns (marks stride rise m ps from (k - from)))

@@ -11,7 +11,7 @@ use Rattle.slot_file.specs.Slots.{noSlot, orderOfSlots}
 use Rattle.slot_file.specs.declared.SlotRow.{SlotRow}
 use Rattle.slot_file.proofs.Orders.{order-length, order-at}
 use Rattle.slot_file.proofs.SlotReads.{slots-formed}
-use Rattle.slot_file.proofs.SlotRows.{row-length, row-end-held}
+use Rattle.slot_file.proofs.SlotRows.{row-length}
 use Rattle.plan_writing.specs.Ran.{slotsIn, WeekRow}
 
 module _ {f : Shape} {s : List ℕ} {row : SlotRow} (h : WeekRow f s row) where
@@ -21,17 +21,11 @@ module _ {f : Shape} {s : List ℕ} {row : SlotRow} (h : WeekRow f s row) where
   pub order-is : OrderFacts (f .products) (orderOfSlots (slotsIn f s row))
   order-is = order-facts (f .products) (orderOfSlots (slotsIn f s row)) (h .once)
 
-  pub some-slot : 1 ≤ row .count
-  some-slot = omega (arith, slots-formed f s (h .row-of .good) (row .week) (h .week) .some, row-length (h .row-of) (h .week))
-
   pub few-slots : row .count ≤ f .products
   few-slots = omega (arith, slots-formed f s (h .row-of .good) (row .week) (h .week) .few, row-length (h .row-of) (h .week))
 
-  pub some-product : 0 < f .products
-  some-product = omega (arith, order-is .below 0 (omega (arith, order-size, some-slot)))
-
-  pub count-held : row .count ≤ length s
-  count-held = omega (arith, row-end-held (h .row-of) (h .week))
+  pub some-product : 1 ≤ row .count → 0 < f .products
+  some-product l = omega (arith, order-is .below 0 (omega (arith, order-size)))
 
   -- the product of slot k, as the accessor gives it
   pub product-at : (k : ℕ) {p : ℕ} → p ≡ getD (slotsIn f s row) k noSlot .product → p ≡ orderAt (orderOfSlots (slotsIn f s row)) k

@@ -134,7 +134,7 @@ fn stride_of(f: Shape, place: usize) -> usize
 
 // The product that the line comes from to slot k: what is mounted, or the slot before.
 fn from_product(slots: &[u8], f: Shape, row: SlotRow, mounted: Mounted, k: usize) -> usize
-    requires { ⌜ WeekRow f (now slots) row × mountedBelow (f .products) mounted × (k ≤ row .count) ⌝ }
+    requires { ⌜ WeekRow f (now slots) row × mountedBelow (f .products) mounted × (k ≤ row .count) × (1 ≤ row .count) ⌝ }
     ensures { λ r. ⌜ (r ≡ fromOf mounted (orderOfSlots (slotsIn f (now (slots .entry)) row)) k) × (r < f .products) ⌝ }
 {
     if k == 0 {
@@ -146,12 +146,15 @@ fn from_product(slots: &[u8], f: Shape, row: SlotRow, mounted: Mounted, k: usize
     row_product(slots, f, row, k - 1)
 }
 
-// Stores the row in bytes of 0.
+// Stores the row in bytes of 0. A shut week stores nothing.
 fn write_marks(out: &mut [u8], slots: &[u8], f: Shape, place: usize, row: SlotRow, mounted: Mounted)
     requires { ⌜ WeekRow f (now slots) row × mountedBelow (f .products) mounted × (place < 6) × Cleared (sectionOf f place .columns) (now out) ⌝ }
     ensures { λ _. ⌜ now (out .exit) ≡ store (now (out .entry)) 0
         (encode 1 (sectionOf f place .columns) (markRow (f .products) mounted (orderOfSlots (slotsIn f (now (slots .entry)) row)) place)) ⌝ }
 {
+    if row.count == 0 {
+        return;
+    }
     let stride = stride_of(f, place);
     let rise = same(place, plan_file::POSITION);
     let total = row.count;

@@ -23,13 +23,15 @@ module _ (N : ℕ) (x : LinePlan) (w : ℕ) (into out : ℕ → ℕ) where
 
   pub passages-week : (l : LinePlant) → ((j : ℕ) → j < N → into j ≡ sumBelow N (λ i. x .weekChangeover w i j))
       → ((i : ℕ) → i < N → out i ≡ sumBelow N (x .weekChangeover w i))
-      → allBelow N (λ i. passageAt (into i) (out i) (sumBelow N (mountedBefore l x w)) (sumBelow N (x .first w)) l x w i) ≡ rule33 N l x w
+      → allBelow N (λ i. passageAt (into i) (out i) (mountedBefore N l x w i) (sumBelow N (mountedBefore N l x w)) (sumBelow N (x .first w)) x w i)
+      ≡ rule33 N l x w
   unfolding rule33 passageAt
   passages-week line e g =
-      let mounted = sumBelow N (mountedBefore line x w) in
+      let before = mountedBefore N line x w in
+      let mounted = sumBelow N before in
       let firsts = sumBelow N (x .first w) in
-      all-ext N _ (λ i. passageAt (sumBelow N (λ h. x .weekChangeover w h i)) (sumBelow N (x .weekChangeover w i)) mounted firsts line x w i)
-      (λ i l. λ u. passageAt (e i l u) (g i l u) mounted firsts line x w i)
+      all-ext N _ (λ i. passageAt (sumBelow N (λ h. x .weekChangeover w h i)) (sumBelow N (x .weekChangeover w i)) (before i) mounted firsts x w i)
+      (λ i l. λ u. passageAt (e i l u) (g i l u) (before i) mounted firsts x w i)
       ∙ sym (all-both N _ _)
 
 pub positions-week : (N : ℕ) (x : LinePlan) (w : ℕ)

@@ -1,22 +1,25 @@
--- Rule 33 in the paper's words: behind rule 31 it is the same test, so every verdict is the same. Assumes nothing.
-use Prim.Native.Nat.{ℕ, zero, suc, _*_, _<_}
+-- Rule 33 in the papers' words: behind rule 31 it is the same test, so every verdict is the same. Assumes nothing.
+use Prim.Native.Nat.{ℕ, zero, suc, _*_, _<_, _≤_}
 use mathlib.Core.Path.{_≡_, refl, sym, ap, _∙_}
-use mathlib.Core.Bool.{Bool, true, false, _&&_}
+use mathlib.Core.Logic.{_⊎_, inl, inr}
+use mathlib.Core.Bool.{Bool, true, false, _&&_, true≢false}
 use native.Mathlib.Omega.{arith}
 use native.Mathlib.Nat.{mul-one}
 use lib.Dec.{eqb}
 use borrow.Author.Tests.{eqb-true, eq-eqb}
 use Rattle.mathematics.specs.Below.{sumBelow, allBelow}
-use Rattle.mathematics.specs.Week.{rule31}
-use Rattle.mathematics.proofs.Below.{sum-zero, term-le-sum, and-both, both-and, all-each, each-all}
-use Rattle.mathematics.proofs.Tables.{all-ext}
-use Rattle.mathematics.proofs.WeekRules.{facts31}
+use Rattle.mathematics.specs.Week.{oneEach, shut, rule31}
+use Rattle.mathematics.proofs.Below.{sum-zero, term-le-sum, and-both, both-and, all-each}
+use Rattle.mathematics.proofs.Sums.{all-equal, equal-all}
+use Rattle.mathematics.proofs.Tables.{all-ext, all-grid, grid-all}
+use Rattle.mathematics.proofs.WeekRules.{facts31, shut-facts, once-or-shut}
 use Rattle.plant_file.specs.Plant.{LinePlant, Plant}
 use Rattle.plan_file.specs.Plan.{LinePlan, Plan}
 use Rattle.costs.specs.Mounted.{openingMounted}
-use Rattle.rules.specs.Rules.{weekOf, mountedBefore, rule33}
+use Rattle.rules.specs.Rules.{weekOf, productionEnd, mountedAfter, mountedBefore, rule33}
 use Rattle.rules.specs.Verdict.{trials, tried, verdictOf}
-use Rattle.rules.specs.Words.{words33, verdictInWords}
+use Rattle.rules.specs.Words.{noPassage, passageFrom, passageWords, words33, verdictInWords}
+use Rattle.rules.proofs.Weeks.{end-produces}
 
 -- two tests that follow from each other
 same-test : (a b : Bool) → (a ≡ true → b ≡ true) → (b ≡ true → a ≡ true) → a ≡ b
@@ -24,40 +27,76 @@ same-test true b f g = sym (f refl)
 same-test false true f g = g refl
 same-test false false f g = refl
 
-module _ (N : ℕ) (line : LinePlant) (x : LinePlan) where
-  first-words : rule33 N line x 0 ≡ words33 N x 0
-  unfolding rule33 mountedBefore openingMounted
-  first-words =
-      same-test (rule33 N line x 0) (words33 N x 0)
-      (λ e.
-      let r = and-both (allBelow N (λ j. eqb (sumBelow N (λ i. x .weekChangeover 0 i j)) (x .first 0 j * sumBelow N (λ i. 0))))
-      (allBelow N (λ i. eqb (sumBelow N (λ j. x .weekChangeover 0 i j)) (0 * sumBelow N (x .first 0)))) e in
-      each-all N _ (λ i l. each-all N _ (λ j m. eq-eqb (x .weekChangeover 0 i j) 0 (omega (
-        arith,
-        eqb-true (sumBelow N (λ j. x .weekChangeover 0 i j)) (0 * sumBelow N (x .first 0)) (all-each N _ (r .1) i l),
-        term-le-sum N (λ j. x .weekChangeover 0 i j) j m,
-      )))))
-      (λ e.
-      let z : (i : ℕ) → i < N → (j : ℕ) → j < N → x .weekChangeover 0 i j ≡ 0 =
-      λ i l j m. eqb-true (x .weekChangeover 0 i j) 0 (all-each N _ (all-each N _ e i l) j m) in
-      both-and _ _
-      (each-all N _ (λ j m. eq-eqb (sumBelow N (λ i. x .weekChangeover 0 i j)) (x .first 0 j * sumBelow N (λ i. 0))
-      (sum-zero N (λ i. x .weekChangeover 0 i j) (λ i l. z i l j m) ∙ rw (sum-zero N (λ i. 0) (λ i l. refl)) (omega arith))))
-      (each-all N _ (λ i l. eq-eqb (sumBelow N (λ j. x .weekChangeover 0 i j)) (0 * sumBelow N (x .first 0))
-      (sum-zero N (λ j. x .weekChangeover 0 i j) (z i l) ∙ omega arith))))
+-- sums that are all 0, into each product and out of it, are those of marks that are all 0
+no-sums : (N : ℕ) (z : ℕ → ℕ → ℕ) (into out : ℕ → ℕ) → ((j : ℕ) → j < N → into j ≡ 0) → ((i : ℕ) → i < N → out i ≡ 0)
+    → (allBelow N (λ j. eqb (sumBelow N (λ i. z i j)) (into j)) && allBelow N (λ i. eqb (sumBelow N (λ j. z i j)) (out i)))
+    ≡ allBelow N (λ i. allBelow N (λ j. eqb (z i j) 0))
+no-sums N z into out e g =
+    same-test _ (allBelow N (λ i. allBelow N (λ j. eqb (z i j) 0)))
+    (λ h.
+    let r = and-both (allBelow N (λ j. eqb (sumBelow N (λ i. z i j)) (into j))) (allBelow N (λ i. eqb (sumBelow N (λ j. z i j)) (out i))) h in
+    grid-all N N (λ i j. eqb (z i j) 0) (λ i j l m. eq-eqb (z i j) 0
+    (omega (arith, all-equal N (λ i. sumBelow N (λ j. z i j)) out (r .1) i l, g i l, term-le-sum N (λ j. z i j) j m))))
+    (λ h.
+    let none : (i j : ℕ) → i < N → j < N → z i j ≡ 0 = λ i j l m. eqb-true (z i j) 0 (all-grid N N (λ i j. eqb (z i j) 0) h i j l m) in
+    both-and _ _
+    (equal-all N (λ j. sumBelow N (λ i. z i j)) into (λ j m. sum-zero N (λ i. z i j) (λ i l. none i j l m) ∙ sym (e j m)))
+    (equal-all N (λ i. sumBelow N (λ j. z i j)) out (λ i l. sum-zero N (λ j. z i j) (λ j m. none i j l m) ∙ sym (g i l))))
 
-  later-words : (w : ℕ) → sumBelow N (x .first (suc w)) ≡ 1 → sumBelow N (x .last w) ≡ 1 → rule33 N line x (suc w) ≡ words33 N x (suc w)
-  unfolding rule33 mountedBefore
-  later-words w a b =
-      λ u.
-      allBelow N (λ j. eqb (sumBelow N (λ i. x .weekChangeover (suc w) i j)) ((ap (λ (n : ℕ). x .first (suc w) j * n) b ∙ mul-one (x .first (suc w) j)) u))
-      && allBelow N (λ i. eqb (sumBelow N (λ j. x .weekChangeover (suc w) i j)) ((ap (λ (n : ℕ). x .last w i * n) a ∙ mul-one (x .last w i)) u))
+-- a producing week has one first product and one last
+producing : (N : ℕ) (x : LinePlan) (w : ℕ) → rule31 N (weekOf x w) ≡ true → shut N (weekOf x w) ≡ false
+    → (sumBelow N (x .first w) ≡ 1) × (sumBelow N (x .last w) ≡ 1)
+unfolding weekOf
+producing N x w r e = go (once-or-shut N (weekOf x w) r)
+  where
+    go : (oneEach N (weekOf x w) ≡ true) ⊎ (shut N (weekOf x w) ≡ true) → (sumBelow N (x .first w) ≡ 1) × (sumBelow N (x .last w) ≡ 1)
+    go (inl h) = let f = facts31 N (weekOf x w) h in (f .0 .0, f .1 .0)
+    go (inr h) = absurd (true≢false (sym h ∙ e))
+
+module _ (N : ℕ) (line : LinePlant) (x : LinePlan) (w : ℕ) where
+  -- no first product, or nothing mounted
+  none-words : ((j : ℕ) → j < N → x .first w j * sumBelow N (mountedBefore N line x w) ≡ 0)
+      → ((i : ℕ) → i < N → mountedBefore N line x w i * sumBelow N (x .first w) ≡ 0) → rule33 N line x w ≡ noPassage N x w
+  unfolding rule33
+  none-words e g =
+      no-sums N (x .weekChangeover w) (λ j. x .first w j * sumBelow N (mountedBefore N line x w))
+      (λ i. mountedBefore N line x w i * sumBelow N (x .first w)) e g
+
+  shut-words : shut N (weekOf x w) ≡ true → rule33 N line x w ≡ noPassage N x w
+  unfolding weekOf
+  shut-words h =
+      let none = shut-facts N (weekOf x w) h .1 in
+      none-words
+      (λ j m. let z : x .first w j ≡ 0 = omega (arith, none, term-le-sum N (x .first w) j m) in rw z (omega arith))
+      (λ i l. rw none (omega arith))
+
+  opening-words : productionEnd N x w ≡ 0 → rule33 N line x w ≡ noPassage N x w
+  unfolding mountedBefore mountedAfter openingMounted
+  opening-words e =
+      let nothing : (i : ℕ) → mountedBefore N line x w i ≡ 0 = λ i. ap (λ (n : ℕ). mountedAfter line x n i) e in
+      none-words
+      (λ j m. rw (sum-zero N (mountedBefore N line x w) (λ i l. nothing i)) (omega arith))
+      (λ i l. rw (nothing i) (omega arith))
+
+  from-words : (v : ℕ) → productionEnd N x w ≡ suc v → sumBelow N (x .first w) ≡ 1 → sumBelow N (x .last v) ≡ 1 → rule33 N line x w ≡ passageFrom N x v w
+  unfolding rule33 mountedBefore mountedAfter
+  from-words v e a b =
+      ap (λ (n : ℕ). allBelow N (λ j. eqb (sumBelow N (λ i. x .weekChangeover w i j)) (x .first w j * sumBelow N (mountedAfter line x n)))
+      && allBelow N (λ i. eqb (sumBelow N (λ j. x .weekChangeover w i j)) (mountedAfter line x n i * sumBelow N (x .first w)))) e
+      ∙ (λ u.
+      allBelow N (λ j. eqb (sumBelow N (λ i. x .weekChangeover w i j)) ((ap (λ (n : ℕ). x .first w j * n) b ∙ mul-one (x .first w j)) u))
+      && allBelow N (λ i. eqb (sumBelow N (λ j. x .weekChangeover w i j)) ((ap (λ (n : ℕ). x .last v i * n) a ∙ mul-one (x .last v i)) u)))
 
   -- behind rule 31
-  pub words-33 : (W : ℕ) → ((w : ℕ) → w < W → rule31 N (weekOf x w) ≡ true) → (w : ℕ) → w < W → rule33 N line x w ≡ words33 N x w
-  unfolding weekOf
-  words-33 W r zero l = first-words
-  words-33 W r (suc w) l = later-words w (facts31 N (weekOf x (suc w)) (r (suc w) l) .0 .0) (facts31 N (weekOf x w) (r w (omega arith)) .1 .0)
+  pub words-33 : ((v : ℕ) → v ≤ w → rule31 N (weekOf x v) ≡ true) → rule33 N line x w ≡ words33 N x w
+  words-33 r = go (shut N (weekOf x w)) refl (productionEnd N x w) refl
+    where
+      go : (t : Bool) → shut N (weekOf x w) ≡ t → (n : ℕ) → productionEnd N x w ≡ n → rule33 N line x w ≡ passageWords N x w t n
+      go true s n e = shut-words s
+      go false s zero e = opening-words e
+      go false s (suc v) e =
+          let earlier = end-produces N x w v e in
+          from-words v e (producing N x w (r w (omega arith)) s .0) (producing N x v (r v (omega (arith, earlier .0))) (earlier .1) .1)
 
 -- the verdict is the same for every plan
 pub same-verdict : (P : Plant) (x : Plan) → verdictOf P x ≡ verdictInWords P x
@@ -66,5 +105,5 @@ same-verdict P x = go (allBelow (P .weeks) (λ w. rule31 (P .products) (weekOf (
   where
     go : (t : Bool) → allBelow (P .weeks) (λ w. rule31 (P .products) (weekOf (x .line) w)) ≡ t → verdictOf P x ≡ verdictInWords P x
     go true e = rw (all-ext (P .weeks) (rule33 (P .products) (P .line) (x .line)) (words33 (P .products) (x .line))
-        (words-33 (P .products) (P .line) (x .line) (P .weeks) (all-each (P .weeks) _ e)))
+        (λ w l. words-33 (P .products) (P .line) (x .line) w (λ v h. all-each (P .weeks) _ e v (omega arith))))
     go false e = rw e

@@ -7,13 +7,13 @@ use lib.Dec.{eqb, leb}
 use Rattle.mathematics.specs.Below.{implies, within}
 use Rattle.sections.specs.declared.Shape.{Shape}
 use Rattle.sections.specs.declared.Form.the-variants.{Good}
-use Rattle.plant_file.specs.Plant.{LinePlant, Plant}
+use Rattle.plant_file.specs.Plant.{Plant}
 use Rattle.plant_file.specs.Form.{plantForm}
 use Rattle.plan_file.specs.Plan.{LinePlan, Plan}
 use Rattle.plan_file.specs.Form.{planForm}
 use Rattle.rules.specs.declared.ProductRule.{ProductRule}
 use Rattle.rules.specs.declared.ProductRule.the-variants.{Run, Production, Inventory, Storage}
-use Rattle.rules.specs.Rules.{mountedBefore, runAt, productionAt, inventoryAt, storageAt}
+use Rattle.rules.specs.Rules.{runAt, productionAt, inventoryAt, storageAt}
 
 -- a plant file and a plan file without refusal, and one of their weeks
 pub record Judged (a b : List ℕ) (f : Shape) (w : ℕ) : Type 0 where
@@ -26,9 +26,10 @@ unfoldable pub sequenceAt : (into out : ℕ) → LinePlan → (w i : ℕ) → Bo
 sequenceAt into out x w i =
     eqb (x .changeover w i i) 0 && eqb (into + x .first w i) (x .assigned w i) && eqb (out + x .last w i) (x .assigned w i)
 
--- 33: the sums of ZF into a product and out of it, where so many products are mounted before the week and so many come first in it
-unfoldable pub passageAt : (into out mounted firsts : ℕ) → LinePlant → LinePlan → (w i : ℕ) → Bool
-passageAt into out mounted firsts l x w i = eqb into (x .first w i * mounted) && eqb out (mountedBefore l x w i * firsts)
+-- 33: the sums of ZF into a product and out of it, with whether it is mounted before the week, where so many products are mounted before the
+-- week and so many come first in it
+unfoldable pub passageAt : (into out before mounted firsts : ℕ) → LinePlan → (w i : ℕ) → Bool
+passageAt into out before mounted firsts x w i = eqb into (x .first w i * mounted) && eqb out (before * firsts)
 
 -- 34: O of a product, in a week of this many
 unfoldable pub positionAt : ℕ → LinePlan → (w i : ℕ) → Bool

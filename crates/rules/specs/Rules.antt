@@ -1,11 +1,11 @@
 -- The model's rules 33 and 35 to 41, in the paper's words. Rules 31, 32 and 34 are of one week's tables and stand in `mathematics`. The rules
 -- of a line, up to 36, take the line's own numbers and tables. Assumes nothing.
 use Prim.Native.Nat.{ℕ, zero, suc, _+_, _*_}
-use mathlib.Core.Bool.{Bool, true, false, _&&_}
+use mathlib.Core.Bool.{Bool, true, false, _&&_, cond}
 use lib.Dec.{eqb, leb}
 use lib.IntN.{ℤ, pos, negsuc, _-ℤ_}
 use Rattle.mathematics.specs.Below.{sumBelow, allBelow, within}
-use Rattle.mathematics.specs.Week.{WeekTables}
+use Rattle.mathematics.specs.Week.{WeekTables, shut}
 use Rattle.plant_file.specs.Plant.{LinePlant, Plant}
 use Rattle.plan_file.specs.Plan.{LinePlan, Plan}
 use Rattle.costs.specs.Mounted.{isMounted, openingMounted}
@@ -17,17 +17,26 @@ unfoldable pub weekOf : LinePlan → ℕ → WeekTables
 weekOf x w =
     record { assigned = x .assigned w; first = x .first w; last = x .last w; position = x .position w; changeover = x .changeover w }
 
--- what is mounted on the line before week w, as 1 at that product: at first what the opening has, later "L .. in the week before"
-unfoldable pub mountedBefore : LinePlant → LinePlan → ℕ → ℕ → ℕ
-mountedBefore l x zero i = isMounted (openingMounted l) i
-mountedBefore l x (suc w) i = x .last w i
+-- the weeks up to "the last producing week" before week w, that one counted too; 0 if there is none (request 2026-01)
+unfoldable pub productionEnd : ℕ → LinePlan → ℕ → ℕ
+productionEnd N x zero = 0
+productionEnd N x (suc w) = cond (shut N (weekOf x w)) (productionEnd N x w) (suc w)
 
--- 33: "ZF of week 0 is 0; later, into j it sums to F of j, out of i to L of i in the week before": each sum where something is mounted before
--- the week and the week has a first product. Behind rule 31 these are the paper's sums: the law `same-verdict`
+-- what is mounted on the line after n weeks, as 1 at that product, where the last of them produces: L; at first what the opening has
+unfoldable pub mountedAfter : LinePlant → LinePlan → ℕ → ℕ → ℕ
+mountedAfter l x zero i = isMounted (openingMounted l) i
+mountedAfter l x (suc w) i = x .last w i
+
+-- what is mounted on the line before week w: "the last product of the last producing week, if there was one"
+unfoldable pub mountedBefore : ℕ → LinePlant → LinePlan → ℕ → ℕ → ℕ
+mountedBefore N l x w = mountedAfter l x (productionEnd N x w)
+
+-- 33, by request 2026-01: into j ZF sums to F of j, out of i to L of i in the last producing week before, each sum where something is mounted
+-- before the week and the week has a first product. Behind rule 31 these are the paper's sums: the law `same-verdict`
 unfoldable pub rule33 : ℕ → LinePlant → LinePlan → ℕ → Bool
 rule33 N l x w =
-    allBelow N (λ j. eqb (sumBelow N (λ i. x .weekChangeover w i j)) (x .first w j * sumBelow N (mountedBefore l x w)))
-    && allBelow N (λ i. eqb (sumBelow N (λ j. x .weekChangeover w i j)) (mountedBefore l x w i * sumBelow N (x .first w)))
+    allBelow N (λ j. eqb (sumBelow N (λ i. x .weekChangeover w i j)) (x .first w j * sumBelow N (mountedBefore N l x w)))
+    && allBelow N (λ i. eqb (sumBelow N (λ j. x .weekChangeover w i j)) (mountedBefore N l x w i * sumBelow N (x .first w)))
 
 -- 35: "shortest × E ≤ T ≤ week × E"
 abbrev pub runAt : (shortest week : ℕ) → LinePlan → ℕ → ℕ → Bool
@@ -40,7 +49,7 @@ rule35 N shortest week x w = allBelow N (runAt shortest week x w)
 unfoldable pub changeoversUnder : ℕ → (table marks : ℕ → ℕ → ℕ) → ℕ
 changeoversUnder N table marks = sumBelow N (λ i. sumBelow N (λ j. marks i j * changeoverBetween table i j))
 
--- "under Z and ZF": week w's, within it and from the week before
+-- "under Z and ZF": week w's, within it and from what is mounted before
 unfoldable pub changeoversIn : ℕ → (ℕ → ℕ → ℕ) → LinePlan → ℕ → ℕ
 changeoversIn N table x w = changeoversUnder N table (x .changeover w) + changeoversUnder N table (x .weekChangeover w)
 

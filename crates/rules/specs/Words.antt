@@ -1,20 +1,34 @@
--- Rule 33 in the paper's words, week 0 apart from the others, and the verdict with it. Assumes nothing.
+-- Rule 33 in the papers' words, shut weeks and the first producing week apart from the others, and the verdict with it. Assumes nothing.
 use Prim.Native.Nat.{ℕ, zero, suc}
-use mathlib.Core.Bool.{Bool, _&&_, cond}
+use mathlib.Core.Bool.{Bool, true, false, _&&_, cond}
 use mathlib.Core.List.{List, [], _∷_}
 use lib.Dec.{eqb}
 use Rattle.mathematics.specs.Below.{sumBelow, allBelow}
+use Rattle.mathematics.specs.Week.{shut}
 use Rattle.plant_file.specs.Plant.{Plant}
 use Rattle.plan_file.specs.Plan.{LinePlan, Plan}
+use Rattle.rules.specs.Rules.{weekOf, productionEnd}
 use Rattle.rules.specs.Verdict.{Trial, trial, trials, tried, profitTried}
 use Rattle.rules.specs.declared.Verdict.{Verdict}
 
--- "ZF of week 0 is 0; later, into j it sums to F of j, out of i to L of i in the week before"
+-- "all 0"
+abbrev pub noPassage : ℕ → LinePlan → ℕ → Bool
+noPassage N x w = allBelow N (λ i. allBelow N (λ j. eqb (x .weekChangeover w i j) 0))
+
+-- "into j it sums to F of j, out of i to L of i" in week v
+abbrev pub passageFrom : ℕ → LinePlan → (v w : ℕ) → Bool
+passageFrom N x v w =
+    allBelow N (λ j. eqb (sumBelow N (λ i. x .weekChangeover w i j)) (x .first w j))
+    && allBelow N (λ i. eqb (sumBelow N (λ j. x .weekChangeover w i j)) (x .last v i))
+
+-- "rule 33 takes that earlier week (all 0 in a shut week or with none earlier)": whether the week is shut, and the weeks up to the earlier one
+abbrev pub passageWords : ℕ → LinePlan → ℕ → (isShut : Bool) (earlier : ℕ) → Bool
+passageWords N x w true earlier = noPassage N x w
+passageWords N x w false zero = noPassage N x w
+passageWords N x w false (suc v) = passageFrom N x v w
+
 abbrev pub words33 : ℕ → LinePlan → ℕ → Bool
-words33 N x zero = allBelow N (λ i. allBelow N (λ j. eqb (x .weekChangeover 0 i j) 0))
-words33 N x (suc w) =
-    allBelow N (λ j. eqb (sumBelow N (λ i. x .weekChangeover (suc w) i j)) (x .first (suc w) j))
-    && allBelow N (λ i. eqb (sumBelow N (λ j. x .weekChangeover (suc w) i j)) (x .last w i))
+words33 N x w = passageWords N x w (shut N (weekOf x w)) (productionEnd N x w)
 
 -- the list of rules with another rule n
 abbrev replaced : ℕ → (ℕ → Bool) → List Trial → List Trial

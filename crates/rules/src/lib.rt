@@ -4,14 +4,14 @@ ghost use Prim.Native.Nat.{_+_, _*_, _/_, _%_, _≤_, _<_, _^_};
 ghost use lib.Dec.{eqb, leb};
 ghost use lib.IntN.{pos, _-ℤ_};
 ghost use Rattle.mathematics.specs.Below.{sumBelow, allBelow, implies, within};
-ghost use Rattle.mathematics.specs.Week.{markedOnce, rule31, rule32, rule34};
+ghost use Rattle.mathematics.specs.Week.{markedOnce, shut, rule31, rule32, rule34};
 ghost use Rattle.sections.specs.declared.Form.the-variants.{Good};
 ghost use Rattle.plant_file.specs.Plant.{plantOf};
 ghost use Rattle.plant_file.specs.Form.{plantForm};
 ghost use Rattle.plan_file.specs.Plan.{planOf};
 ghost use Rattle.plan_file.specs.Form.{planForm};
 ghost use Rattle.plan_file.specs.Tables.{productTableOf, changeoverTableOf};
-ghost use Rattle.rules.specs.Rules.{weekOf, mountedBefore, inventoryBefore, rule33, rule36, rule38, rule41, sameInteger};
+ghost use Rattle.rules.specs.Rules.{weekOf, productionEnd, mountedAfter, inventoryBefore, rule33, rule36, rule38, rule41, sameInteger};
 ghost use Rattle.rules.specs.Rules.{runAt, productionAt, backlogAt, inventoryAt, storageAt, changeoversUnder, changeoversIn};
 ghost use Rattle.rules.specs.Rules.{revenueIn, changeoverChargeIn, backlogChargeIn, inventoryChargeIn};
 ghost use Rattle.rules.specs.Products.{Judged, sequenceAt, passageAt, positionAt, followsAt, productRule};
@@ -110,11 +110,27 @@ fn marked_once(plan: &[u8], f: Shape, table: ProductTable, week: usize) -> bool
     and(sum == 1, ok)
 }
 
+// Whether a week is shut: none of E, F and L.
+fn is_shut(plan: &[u8], f: Shape, week: usize) -> bool
+    requires { ⌜ (planForm f (now plan) ≡ Good f) × (week < f .weeks) ⌝ }
+    ensures { λ r. ⌜ r ≡ shut (f .products) (weekOf (planOf f (now (plan .entry)) .line) week) ⌝ }
+{
+    if week_sum(plan, f, ProductTable::Assigned, week) != 0 {
+        return false;
+    }
+    let firsts = week_sum(plan, f, ProductTable::First, week);
+    let lasts = week_sum(plan, f, ProductTable::Last, week);
+    and(firsts == 0, lasts == 0)
+}
+
 // 31 in a week.
 fn marks_in(plan: &[u8], f: Shape, week: usize) -> bool
     requires { ⌜ (planForm f (now plan) ≡ Good f) × (week < f .weeks) ⌝ }
     ensures { λ r. ⌜ r ≡ rule31 (f .products) (weekOf (planOf f (now (plan .entry)) .line) week) ⌝ }
 {
+    if is_shut(plan, f, week) {
+        return true;
+    }
     and(
         marked_once(plan, f, ProductTable::First, week),
         marked_once(plan, f, ProductTable::Last, week),
@@ -151,28 +167,43 @@ fn sequence_in(plan: &[u8], f: Shape, week: usize) -> bool
     ok
 }
 
-// Whether a product is mounted before a week: 1, else 0.
-pub fn mounted_before(plant: &[u8], plan: &[u8], f: Shape, week: usize, product: usize) -> u64
-    requires { ⌜ Judged (now plant) (now plan) f week × (product < f .products) ⌝ }
-    ensures { λ r. ⌜ (r ≡ mountedBefore (plantOf f (now (plant .entry)) .line) (planOf f (now (plan .entry)) .line) week product) × (r < 2) ⌝ }
+// The weeks up to the last producing week before a week, that one counted too; 0 if there is none.
+pub fn production_end(plan: &[u8], f: Shape, week: usize) -> usize
+    requires { ⌜ (planForm f (now plan) ≡ Good f) × (week ≤ f .weeks) ⌝ }
+    ensures { λ r. ⌜ (r ≡ productionEnd (f .products) (planOf f (now (plan .entry)) .line) week) × (r ≤ week) ⌝ }
 {
-    if week == 0 {
-        return is_mounted(opening_mounted(plant, f), product);
+    let mut weeks = week;
+    while weeks > 0 {
+        if !is_shut(plan, f, weeks - 1) {
+            return weeks;
+        }
+        weeks -= 1;
     }
-    plan_file::last(plan, f, week - 1, product)
+    0
 }
 
-// How many products are mounted before a week.
-fn mounted_sum(plant: &[u8], plan: &[u8], f: Shape, week: usize) -> u64
-    requires { ⌜ Judged (now plant) (now plan) f week ⌝ }
-    ensures { λ r. ⌜ (r ≡ sumBelow (f .products) (mountedBefore (plantOf f (now (plant .entry)) .line) (planOf f (now (plan .entry)) .line) week))
+// Whether a product is mounted after so many weeks, of which the last produces: 1, else 0.
+pub fn mounted_after(plant: &[u8], plan: &[u8], f: Shape, weeks: usize, product: usize) -> u64
+    requires { ⌜ (plantForm (now plant) ≡ Good f) × (planForm f (now plan) ≡ Good f) × (weeks ≤ f .weeks) × (product < f .products) ⌝ }
+    ensures { λ r. ⌜ (r ≡ mountedAfter (plantOf f (now (plant .entry)) .line) (planOf f (now (plan .entry)) .line) weeks product) × (r < 2) ⌝ }
+{
+    if weeks == 0 {
+        return is_mounted(opening_mounted(plant, f), product);
+    }
+    plan_file::last(plan, f, weeks - 1, product)
+}
+
+// How many products are mounted then.
+fn mounted_sum(plant: &[u8], plan: &[u8], f: Shape, weeks: usize) -> u64
+    requires { ⌜ (plantForm (now plant) ≡ Good f) × (planForm f (now plan) ≡ Good f) × (weeks ≤ f .weeks) ⌝ }
+    ensures { λ r. ⌜ (r ≡ sumBelow (f .products) (mountedAfter (plantOf f (now (plant .entry)) .line) (planOf f (now (plan .entry)) .line) weeks))
         × (r < 2 ^ 24) ⌝ }
 {
     let n = as_usize(f.products);
     let mut sum = 0;
     let mut product = 0;
     while product < n {
-        sum += mounted_before(plant, plan, f, week, product);
+        sum += mounted_after(plant, plan, f, weeks, product);
         product += 1;
     }
     sum
@@ -186,23 +217,23 @@ fn marked(mark: u64, n: u64) -> u64
     mark * n
 }
 
-// 33 at a product, with the sums into it and out of it, and how many products are mounted before the week and come first in it.
+// 33 at a product, with the sums into it and out of it, whether it is mounted before the week, and how many products are mounted then and come
+// first in the week.
 fn passage_at(
-    plant: &[u8],
     plan: &[u8],
     f: Shape,
     week: usize,
     product: usize,
     into: u8,
     out: u8,
+    before: u64,
     mounted: u64,
     firsts: u64,
 ) -> bool
-    requires { ⌜ Judged (now plant) (now plan) f week × (product < f .products) × (mounted < 2 ^ 24) × (firsts < 2 ^ 24) ⌝ }
-    ensures { λ r. ⌜ r ≡ passageAt into out mounted firsts (plantOf f (now (plant .entry)) .line) (planOf f (now (plan .entry)) .line) week product ⌝ }
+    requires { ⌜ (planForm f (now plan) ≡ Good f) × (week < f .weeks) × (product < f .products) × (before < 2) × (mounted < 2 ^ 24) × (firsts < 2 ^ 24) ⌝ }
+    ensures { λ r. ⌜ r ≡ passageAt into out before mounted firsts (planOf f (now (plan .entry)) .line) week product ⌝ }
 {
     let first = plan_file::first(plan, f, week, product);
-    let before = mounted_before(plant, plan, f, week, product);
     and(
         wide(into) == marked(first, mounted),
         wide(out) == marked(before, firsts),
@@ -218,12 +249,14 @@ fn passages_in(plant: &[u8], plan: &[u8], f: Shape, week: usize) -> bool
     let sums = arc_sums(plan, f, ChangeoverTable::Between, week);
     let into = sums.into;
     let out = sums.out;
-    let mounted = mounted_sum(plant, plan, f, week);
+    let weeks = production_end(plan, f, week);
+    let mounted = mounted_sum(plant, plan, f, weeks);
     let firsts = week_sum(plan, f, ProductTable::First, week);
     let mut ok = true;
     let mut i = 0;
     while i < n {
-        let here = passage_at(plant, plan, f, week, i, into[i], out[i], mounted, firsts);
+        let before = mounted_after(plant, plan, f, weeks, i);
+        let here = passage_at(plan, f, week, i, into[i], out[i], before, mounted, firsts);
         ok = and(ok, here);
         i += 1;
     }
@@ -436,7 +469,7 @@ fn changeovers_under(
     }
 }
 
-// What a week's changeovers take, within the week and from the week before.
+// What a week's changeovers take, within the week and from what is mounted before.
 fn changeovers(plant: &[u8], plan: &[u8], f: Shape, week: usize) -> Changeover
     requires { ⌜ Judged (now plant) (now plan) f week ⌝ }
     ensures { λ r. ⌜ (r .minutes .0 ≡ changeoversIn (f .products) (plantOf f (now (plant .entry)) .line .changeoverMinutes)

@@ -147,11 +147,11 @@ module _ (f : Shape) (x : Slots) where
         }
 
     -- ---- rows 21 to 24
-    count-range : (w : ℕ) → w < f .weeks → within 1 (f .products) (cell 1 F 0 (0 + w)) ≡ true
+    count-range : (w : ℕ) → w < f .weeks → within 0 (f .products) (cell 1 F 0 (0 + w)) ≡ true
     unfolding slotCount
     count-range w l =
         let n = count-at w l in
-        rw (zero-add w) (at-within 1 (f .products) (slotCount F w) (omega (arith, h .formed w l .some)) (omega (arith, h .formed w l .few)))
+        rw (zero-add w) (at-within 0 (f .products) (slotCount F w) (omega arith) (omega (arith, h .formed w l .few)))
 
     product-below : (j : ℕ) → j < slotsBefore F (f .weeks) → slotAt F j .product < f .products
     product-below j l =

@@ -27,7 +27,6 @@ use Rattle.slot_file.proofs.SlotPlaces.{slots-held}
 pub record SlotGood (f : Shape) (s : List ℕ) : Type 0 where
   pub head : Headed s 3 41 3
   pub laid : Laid s (slotLengths f (slotsBefore s (f .weeks)))
-  pub some : (w : ℕ) → w < f .weeks → 1 ≤ slotCount s w
   pub few : (w : ℕ) → w < f .weeks → slotCount s w ≤ f .products
   pub product : (j : ℕ) → j < slotsBefore s (f .weeks) → slotAt s j .product < f .products
 
@@ -46,13 +45,12 @@ module _ (f g : Shape) (s : List ℕ) (e : slotForm f s ≡ Good g) where
   unfolding slotsInRange slotCount
   slot-good =
       let h = headed-facts s 3 41 3 (rows .0) in
-      let range = and-both (inRange 1 s 0 0 (f .weeks) 1 (f .products)) _ (rows .3) in
-      let counts = range-first 1 s 0 (f .weeks) 1 (f .products) (range .0) in
+      let range = and-both (inRange 1 s 0 0 (f .weeks) 0 (f .products)) _ (rows .3) in
+      let counts = range-first 1 s 0 (f .weeks) 0 (f .products) (range .0) in
       let products = all-each (slotsBefore s (f .weeks)) (λ j. ltb (slotAt s j .product) (f .products)) (range .1) in
       record {
         head = h;
         laid = record { few = omega arith; long = h .long; lies = rows .1; lens = rows .2 };
-        some = λ w l. counts w l .0;
         few = λ w l. counts w l .1;
         product = λ j l. ltb-true _ _ (products j l);
       }
@@ -111,7 +109,6 @@ module _ (f : Shape) (s : List ℕ) (e : slotForm f s ≡ Good f) where
       let h = slot-good f f s e in
       let n = week-length f s w in
       record {
-        some = omega (arith, h .some w l);
         few = omega (arith, h .few w l);
         product = λ k m.
             let b : k < slotCount s w = omega arith in

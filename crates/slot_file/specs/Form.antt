@@ -23,10 +23,10 @@ slotLayout f total = layout 1 1 (f .weeks) ∷ layout 3 1 total ∷ layout 4 (f 
 abbrev pub slotLengths : Shape → ℕ → List ℕ
 slotLengths f total = lengthsOf (slotLayout f total)
 
--- row 24: each week's count 1 to N, each product below N
+-- row 24: each week's count 0 to N ("24 admits a count of 0", request 2026-01), each product below N
 unfoldable pub slotsInRange : List ℕ → Shape → Bool
 slotsInRange s f =
-    inRange 1 s 0 0 (f .weeks) 1 (f .products) && allBelow (slotsBefore s (f .weeks)) (λ j. ltb (slotAt s j .product) (f .products))
+    inRange 1 s 0 0 (f .weeks) 0 (f .products) && allBelow (slotsBefore s (f .weeks)) (λ j. ltb (slotAt s j .product) (f .products))
 
 -- rows 21 to 24: a slot file is a file of kind 3 with sections 41 to 43; 42 is three times the sum of 41 long
 unfoldable pub slotForm : Shape → List ℕ → Form

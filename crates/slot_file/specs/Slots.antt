@@ -23,9 +23,8 @@ abbrev pub orderOfSlots : List Slot → List ℕ
 orderOfSlots [] = []
 orderOfSlots (x ∷ xs) = x .product ∷ orderOfSlots xs
 
--- row 24, of a week: 1 to N slots, each of a product below N
+-- row 24, of a week: 0 to N slots (request 2026-01), each of a product below N
 pub record WeekFormed (N : ℕ) (xs : List Slot) : Type 0 where
-  pub some : 0 < length xs
   pub few : length xs ≤ N
   pub product : (k : ℕ) → k < length xs → getD xs k noSlot .product < N
 

@@ -144,7 +144,7 @@ fn is_in_range(s: &[u8], f: Shape) -> bool
     let total = slots_before(s, weeks);
     let n = wide(f.products);
     and(
-        in_range(s, COUNTS, 1, 0, weeks, 1, n),
+        in_range(s, COUNTS, 1, 0, weeks, 0, n),
         has_products(s, total, n),
     )
 }
@@ -171,7 +171,7 @@ pub fn slot_form(s: &[u8], f: Shape) -> Form
 // Section 41: the slots of a week.
 pub fn slot_count(s: &[u8], f: Shape, week: usize) -> usize
     requires { ⌜ (slotForm f (now s) ≡ Good f) × (week < f .weeks) ⌝ }
-    ensures { λ r. ⌜ (r ≡ slotCount (now (s .entry)) week) × (1 ≤ r) × (r ≤ f .products) ⌝ }
+    ensures { λ r. ⌜ (r ≡ slotCount (now (s .entry)) week) × (r ≤ f .products) ⌝ }
 {
     cell_in(s, COUNTS, 1, week) as usize
 }

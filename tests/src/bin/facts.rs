@@ -1,4 +1,4 @@
-//! Writes P1 to P12 and the small plant into the folder of the program `planreport`: the files, and what it has to print of the small plant.
+//! Writes P1 to P13 and the small plant into the folder of the program `planreport`: the files, and what it has to print of the small plant.
 
 use std::path::Path;
 use std::process::ExitCode;

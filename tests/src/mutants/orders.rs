@@ -6,7 +6,8 @@ use crate::model::{Plan, Plant, Sizes, Slots};
 use crate::random::Random;
 
 /// Draws one week's Z anew: a chain from the week's first product and a ring of
-/// the others, so that all sums agree. L and the next week's ZF follow.
+/// the others, so that all sums agree. L and ZF of the next producing week follow.
+/// A shut week has no chain and gets no L.
 fn draw_chain_and_ring(
     sizes: Sizes,
     plan: &mut Plan,
@@ -27,19 +28,21 @@ fn draw_chain_and_ring(
         let to = ring[(place + 1) % ring.len()];
         plan.changeovers[sizes.week_from_to(week, from, to)] = 1;
     }
-    let last = chain[chain.len() - 1];
-    plan.last[sizes.week_product(week, last)] = 1;
-    move_opening_from(sizes, plan, week + 1, last);
+    if let Some(&last) = chain.last() {
+        plan.last[sizes.week_product(week, last)] = 1;
+        move_opening_from(sizes, plan, week, Some(last));
+    }
 }
 
-/// Lets ZF of a week begin at this product.
-fn move_opening_from(sizes: Sizes, plan: &mut Plan, week: usize, last: usize) {
-    if week >= sizes.weeks {
+/// Lets ZF of the next producing week after this one begin at this product, or
+/// have no mark.
+pub(super) fn move_opening_from(sizes: Sizes, plan: &mut Plan, week: usize, last: Option<usize>) {
+    let Some(week) = (week + 1..sizes.weeks).find(|&later| !plan.is_shut(sizes, later)) else {
         return;
-    }
+    };
     for to in 0..sizes.products {
         for from in 0..sizes.products {
-            let follows = from == last && plan.first[sizes.week_product(week, to)] == 1;
+            let follows = Some(from) == last && plan.first[sizes.week_product(week, to)] == 1;
             plan.opening_changeovers[sizes.week_from_to(week, from, to)] = u8::from(follows);
         }
     }
@@ -50,8 +53,8 @@ fn order(slots: &Slots, week: usize) -> Vec<usize> {
     slots.rows()[week].iter().map(|slot| slot.product.into()).collect()
 }
 
-/// A lone ring. Where the week has too few products it takes two that do not
-/// run, at the shortest run.
+/// A lone ring. Where the week has too few products, or none, it takes two that
+/// do not run, at the shortest run.
 pub(super) fn make_ring(random: &mut Random, plant: &mut Plant, slots: &Slots, plan: &mut Plan) {
     let sizes = plant.sizes;
     let week = random.below(sizes.weeks);
@@ -132,8 +135,7 @@ pub(super) fn change_place(random: &mut Random, plant: &mut Plant, _: &Slots, pl
 
 /// Moves a week's mark to another product.
 fn move_mark(random: &mut Random, sizes: Sizes, marks: &mut [u8], week: usize) -> usize {
-    let start = sizes.week_product(week, 0);
-    let marks = &mut marks[start..start + sizes.products];
+    let marks = &mut marks[sizes.week_row(week)];
     marks.fill(0);
     let product = random.below(marks.len());
     marks[product] = 1;
@@ -145,12 +147,13 @@ pub(super) fn move_first(random: &mut Random, plant: &mut Plant, _: &Slots, plan
     move_mark(random, plant.sizes, &mut plan.first, week);
 }
 
-/// Moves L, and half of the time the next week's ZF and the profit with it.
+/// Moves L, and half of the time ZF of the next producing week and the profit
+/// with it.
 pub(super) fn move_last(random: &mut Random, plant: &mut Plant, _: &Slots, plan: &mut Plan) {
     let week = random.below(plant.sizes.weeks);
     let last = move_mark(random, plant.sizes, &mut plan.last, week);
     if random.one_in(2) {
-        move_opening_from(plant.sizes, plan, week + 1, last);
+        move_opening_from(plant.sizes, plan, week, Some(last));
         following::fill_profit(plant, plan);
     }
 }

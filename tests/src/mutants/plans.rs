@@ -11,14 +11,18 @@ use super::orders::{
     change_place, double_first_or_last, make_ring, make_self_ring, mark_opening, move_first,
     move_last, move_opening, shuffle_places,
 };
-use super::slots::{end_week, SLOTS_CHANGES};
+use super::shut_weeks::{
+    change_opening_after_shut_week, change_over_in_shut_week, clear_week, fill_shut_week,
+    mark_shut_week, open_shut_week,
+};
+use super::slots::{end_week, shut_week, SLOTS_CHANGES};
 use super::PlanChange;
 use crate::following;
 use crate::model::{Plan, Plant, Slot, Slots};
 use crate::random::Random;
 
 /// Changes after which a plan breaks a rule, or is another plan.
-pub const PLAN_CHANGES: [PlanChange; 39] = [
+pub const PLAN_CHANGES: [PlanChange; 49] = [
     change_one_number,
     change_one_number,
     change_one_number,
@@ -35,7 +39,8 @@ pub const PLAN_CHANGES: [PlanChange; 39] = [
     overrun_week,
     wrap_week,
     wrap_week,
-    empty_week,
+    shut_one_week,
+    shut_one_week,
     make_ring,
     make_ring,
     make_ring,
@@ -58,6 +63,15 @@ pub const PLAN_CHANGES: [PlanChange; 39] = [
     change_inventory_onward,
     wrap_balance,
     wrap_sales_with_backlog,
+    mark_shut_week,
+    change_over_in_shut_week,
+    open_shut_week,
+    fill_shut_week,
+    fill_shut_week,
+    change_opening_after_shut_week,
+    change_opening_after_shut_week,
+    clear_week,
+    clear_week,
 ];
 
 fn change_one_number(random: &mut Random, _: &mut Plant, _: &Slots, plan: &mut Plan) {
@@ -149,10 +163,9 @@ fn wrap_week(random: &mut Random, plant: &mut Plant, slots: &Slots, plan: &mut P
     }
 }
 
-/// A week of no product, with every table following.
-fn empty_week(random: &mut Random, plant: &mut Plant, slots: &Slots, plan: &mut Plan) {
-    let mut rows = slots.rows();
-    let week = random.below(rows.len());
-    rows[week].clear();
-    *plan = following::plan(plant, &Slots::from_rows(&rows, slots.sales.clone()));
+/// A producing week shut, with every table following.
+fn shut_one_week(random: &mut Random, plant: &mut Plant, slots: &Slots, plan: &mut Plan) {
+    let mut slots = slots.clone();
+    shut_week(random, plant, &mut slots);
+    *plan = following::plan(plant, &slots);
 }

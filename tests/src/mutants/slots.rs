@@ -7,7 +7,7 @@ use crate::random::Random;
 
 /// Changes after which a run stops, or runs otherwise. All leave the slots with
 /// products of the plant.
-pub const SLOTS_CHANGES: [SlotsChange; 15] = [
+pub const SLOTS_CHANGES: [SlotsChange; 19] = [
     repeat_product,
     repeat_product,
     shorten_run,
@@ -23,13 +23,22 @@ pub const SLOTS_CHANGES: [SlotsChange; 15] = [
     tighten_storage,
     tighten_storage,
     shuffle_week,
+    shut_week,
+    shut_week,
+    open_week,
+    exchange_weeks,
 ];
+
+/// A week with slots, if there is one.
+fn producing_week(random: &mut Random, rows: &[Vec<Slot>]) -> Option<usize> {
+    random.below_where(rows.len(), |&week| !rows[week].is_empty())
+}
 
 /// Lets a product run twice in a week.
 fn repeat_product(random: &mut Random, plant: &mut Plant, slots: &mut Slots) {
     let mut rows = slots.rows();
-    let row = random.below(rows.len());
-    let row = &mut rows[row];
+    let Some(week) = producing_week(random, &rows) else { return };
+    let row = &mut rows[week];
     let repeated = row[random.below(row.len())];
     if row.len() > 1 && random.one_in(2) {
         let place = random.below(row.len());
@@ -40,20 +49,24 @@ fn repeat_product(random: &mut Random, plant: &mut Plant, slots: &mut Slots) {
     *slots = Slots::from_rows(&rows, slots.sales.clone());
 }
 
-fn any_slot<'slots>(random: &mut Random, slots: &'slots mut Slots) -> &'slots mut Slot {
-    let place = random.below(slots.slots.len());
-    &mut slots.slots[place]
+/// Changes one slot, if there is one.
+fn change_slot(random: &mut Random, slots: &mut Slots, change: impl FnOnce(&mut Slot)) {
+    let place = random.below_where(slots.slots.len(), |_| true);
+    if let Some(place) = place {
+        change(&mut slots.slots[place]);
+    }
 }
 
 fn shorten_run(random: &mut Random, plant: &mut Plant, slots: &mut Slots) {
     let below = plant.shortest_run - 1;
-    any_slot(random, slots).minutes = random.pick(&[below, below, 0]);
+    let minutes = random.pick(&[below, below, 0]);
+    change_slot(random, slots, |slot| slot.minutes = minutes);
 }
 
 /// Lets the minutes of one slot end its week exactly, or pass its end by `over`.
 pub(super) fn end_week(random: &mut Random, plant: &Plant, slots: &mut Slots, over: u64) {
     let mut rows = slots.rows();
-    let week = random.below(rows.len());
+    let Some(week) = producing_week(random, &rows) else { return };
     let mut mounted = rows[..week].iter().flatten().last().map(|slot| usize::from(slot.product));
     let mut clock = 0;
     for slot in &rows[week] {
@@ -84,8 +97,8 @@ fn exceed_week(random: &mut Random, plant: &mut Plant, slots: &mut Slots) {
 fn change_minutes(random: &mut Random, plant: &mut Plant, slots: &mut Slots) {
     let any = random.number() as u16;
     let within = random.between(plant.shortest_run.into(), plant.week_minutes.into()) as u16;
-    any_slot(random, slots).minutes =
-        random.pick(&[any, within, within, plant.week_minutes, u16::MAX]);
+    let minutes = random.pick(&[any, within, within, plant.week_minutes, u16::MAX]);
+    change_slot(random, slots, |slot| slot.minutes = minutes);
 }
 
 /// A sale of more than is asked for.
@@ -157,14 +170,51 @@ fn shuffle_week(random: &mut Random, _plant: &mut Plant, slots: &mut Slots) {
     *slots = Slots::from_rows(&rows, slots.sales.clone());
 }
 
+/// Takes a week's slots away, half of the time with its sales.
+pub(super) fn shut_week(random: &mut Random, plant: &mut Plant, slots: &mut Slots) {
+    let mut rows = slots.rows();
+    let Some(week) = producing_week(random, &rows) else { return };
+    rows[week].clear();
+    *slots = Slots::from_rows(&rows, slots.sales.clone());
+    if random.one_in(2) {
+        let sales = slots.sales.iter_mut().skip(week).step_by(plant.sizes.weeks);
+        sales.for_each(|sale| *sale = 0);
+    }
+}
+
+/// A slot of any product.
+fn new_slot(random: &mut Random, plant: &Plant) -> Slot {
+    let product = random.below(plant.sizes.products) as u8;
+    Slot { product, minutes: random.pick(&[plant.shortest_run, plant.week_minutes]) }
+}
+
+/// Gives a shut week a slot.
+fn open_week(random: &mut Random, plant: &mut Plant, slots: &mut Slots) {
+    let mut rows = slots.rows();
+    if let Some(week) = random.below_where(rows.len(), |&week| rows[week].is_empty()) {
+        rows[week].push(new_slot(random, plant));
+        *slots = Slots::from_rows(&rows, slots.sales.clone());
+    }
+}
+
+fn exchange_weeks(random: &mut Random, _plant: &mut Plant, slots: &mut Slots) {
+    let mut rows = slots.rows();
+    let (one, other) = (random.below(rows.len()), random.below(rows.len()));
+    rows.swap(one, other);
+    *slots = Slots::from_rows(&rows, slots.sales.clone());
+}
+
 /// A count or product that a slot file may not have, with or without section 42
 /// following.
 pub fn break_slots_form(random: &mut Random, plant: &Plant, slots: &mut Slots) {
     let products = plant.sizes.products;
     let mut rows = slots.rows();
     let week = random.below(rows.len());
-    match random.below(5) {
-        0 => any_slot(random, slots).product = random.pick(&[products as u8, 255]),
+    match random.below(6) {
+        0 => {
+            let product = random.pick(&[products as u8, 255]);
+            change_slot(random, slots, |slot| slot.product = product);
+        }
         1 => slots.counts[week] = random.pick(&[0, products as u8 + 1, 255]),
         2 => {
             // Section 42 has the sum of the counts only modulo 2^8.
@@ -173,11 +223,15 @@ pub fn break_slots_form(random: &mut Random, plant: &Plant, slots: &mut Slots) {
             }
         }
         3 => {
-            rows[week].clear();
-            *slots = Slots::from_rows(&rows, slots.sales.clone());
+            // Another week counts the slots of this one as its own.
+            let other = random.below(rows.len());
+            let count = std::mem::take(&mut slots.counts[week]);
+            slots.counts[other] += count;
         }
+        // A slot of no week.
+        4 => slots.slots.push(new_slot(random, plant)),
         _ => {
-            let slot = rows[week][0];
+            let slot = new_slot(random, plant);
             rows[week].resize(products + 1, slot);
             *slots = Slots::from_rows(&rows, slots.sales.clone());
         }

@@ -11,7 +11,9 @@ use Rattle.plan_writing.proofs.from_product.Statement.{statement}
 use Rattle.plan_writing.proofs.from_product.Tie as tie
 
 returns : tie.Need-returns
-returns c = (rw (c .before .before .if1 .taken, c .enum-told .given .1), some-product (c .before .before .before .before .pre .0))
+returns c =
+    let p = c .before .before .before .before .pre in
+    (rw (c .before .before .if1 .taken, c .enum-told .given .1), some-product (p .0) (p .3))
 
 returns-2 : tie.Need-returns-2
 returns-2 c =

@@ -14,8 +14,8 @@ use Rattle.costs.specs.declared.Mounted.{Mounted}
 use Rattle.plan_writing.specs.Ran.{slotsIn, WeekRow}
 use Rattle.plan_writing.specs.Bodies.{sectionOf}
 use Rattle.plan_writing.specs.Line.{markedFrom, markedTo, fromOf}
-use Rattle.plan_writing.proofs.WeekRows.{order-size, order-is, some-slot, product-at}
-use Rattle.plan_writing.proofs.Marks.{marked-within, marks, cell-below, none-stored, one-stored, all-stored}
+use Rattle.plan_writing.proofs.WeekRows.{order-size, order-is, product-at}
+use Rattle.plan_writing.proofs.Marks.{marked-within, marks, cell-below, none-stored, shut-stored, one-stored, all-stored}
 use Rattle.plan_writing.proofs.write_marks.Statement.{statement}
 use Rattle.plan_writing.proofs.write_marks.Tie as tie
 
@@ -33,7 +33,7 @@ abbrev μ-loop : tie.MeasureT-loop
 -- the slots that store
 module _ (c : tie.After-marked-from Inv-loop μ-loop) where
   abbrev start : tie.Start Inv-loop μ-loop
-  start = c .before .before .before .before .before .before
+  start = c .before .before .before .before .before .before .before .before
 
   abbrev place : ℕ
   place = start .args .place
@@ -48,7 +48,7 @@ module _ (c : tie.After-marked-from Inv-loop μ-loop) where
   week-row = start .pre .0
 
   some : 1 ≤ length ps
-  some = omega (arith, order-size week-row, some-slot week-row)
+  some = omega (arith, order-size week-row, c .before .before .before .before .if1 .left)
 
   within : (markedFrom (length ps) place ≤ markedTo (start .args .mounted) (length ps) place)
       × (markedTo (start .args .mounted) (length ps) place ≤ length ps)
@@ -123,8 +123,15 @@ loop-again q =
           ),
     )
 
+-- a shut week
 returns : tie.Need-returns Inv-loop μ-loop
 returns c =
+    let s = c .before .before .before .before in
+    let ps = orderOfSlots (slotsIn (s .args .f) (s .args .slots .now) (s .args .row)) in
+    shut-stored (s .args .f) (s .args .place) (s .pre .2) (s .args .mounted) ps (s .args .out .now) (s .pre .3) (order-size (s .pre .0) ∙ c .if1 .taken)
+
+returns-2 : tie.Need-returns-2 Inv-loop μ-loop
+returns-2 c =
     let h = c .before .before .before in
     let b = c .before .loop in
     let all : b .k ≡ h .before .marked-to .result = omega (arith, c .loop-test .left, b .inv .1) in
@@ -138,9 +145,10 @@ write-marks-spec =
     (tie.spec
     Inv-loop
     μ-loop
+    returns
     (λ c κs. search needs) (λ c κs. search needs) (λ c κs. search needs)
-    (λ c κs. let s = c .before .before .before .before .before in (some-slot (s .pre .0), s .pre .2))
-    (λ c κs. (week-row c, start c .pre .1, omega (arith, from-is c, within c, order-size (week-row c))))
+    (λ c κs. (omega (arith, c .before .before .before .if1 .left), c .before .before .before .before .before .before .before .pre .2))
+    (λ c κs. (week-row c, start c .pre .1, omega (arith, from-is c, within c, order-size (week-row c)), omega (arith, some c, order-size (week-row c))))
     loop-holds
     (λ c κs. (week-row (here c) .row-of, week-row (here c) .week, omega (arith, k-below c, order-size (week-row (here c)))))
     (λ c. omega (arith, cell-inside (c .before), room (c .before)))
@@ -151,4 +159,4 @@ write-marks-spec =
     (λ c. search needs) (λ c. search needs)
     loop-again
     (λ c. search needs)
-    returns)
+    returns-2)

@@ -7,19 +7,19 @@ use Prim.Native.Nat.{_≤_, _-_}
 use Rattle.mathematics.specs.Below.{sumBelow}
 use Rattle.plant_file.specs.Plant.{plantOf}
 use Rattle.plan_file.specs.Plan.{planOf}
-use Rattle.rules.specs.Rules.{mountedBefore}
+use Rattle.rules.specs.Rules.{mountedAfter}
 use Rattle.rules.proofs.mounted_sum.Statement.{statement}
 use Rattle.rules.proofs.mounted_sum.Tie as tie
 
 abbrev Inv-loop : tie.InvT-loop
-Inv-loop plant plan f week n sum₀ product₀ sum product =
-    (product ≤ n) × (sum ≡ sumBelow product (mountedBefore (plantOf f plant .line) (planOf f plan .line) week)) × (sum ≤ product)
+Inv-loop plant plan f weeks n sum₀ product₀ sum product =
+    (product ≤ n) × (sum ≡ sumBelow product (mountedAfter (plantOf f plant .line) (planOf f plan .line) weeks)) × (sum ≤ product)
 
 abbrev μ-loop : tie.MeasureT-loop
-μ-loop plant plan f week n sum₀ product₀ sum product = n - product
+μ-loop plant plan f weeks n sum₀ product₀ sum product = n - product
 
 loop-again : tie.Need-loop-again Inv-loop μ-loop
-loop-again c = (search needs, rw add-one (omega (arith, c .before .before .loop .inv, c .mounted-before .ensures .0)), omega arith)
+loop-again c = (search needs, rw add-one (omega (arith, c .before .before .loop .inv, c .mounted-after .ensures .0)), omega arith)
 
 returns : tie.Need-returns Inv-loop μ-loop
 returns c = let e : c .before .loop .product ≡ c .before .before .before .before .before .args .f .products = omega arith in (cc, omega arith)

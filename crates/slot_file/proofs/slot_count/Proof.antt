@@ -21,7 +21,7 @@ returns c =
     let w = c .before .before .args .week in
     let e = c .cell-in .ensures in
     let l = c .before .before .pre .1 in
-    (e, rw e (h .some w l), rw e (h .few w l))
+    (e, rw e (h .few w l))
 
 pub slot-count-spec : {M : Type 1} → statement M
 slot-count-spec =

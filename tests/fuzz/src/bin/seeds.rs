@@ -1,4 +1,4 @@
-//! Writes the fuzzer's first inputs into a folder: the small plant, P1 to P12, the damaged samples and some random plants.
+//! Writes the fuzzer's first inputs into a folder: the small plant, also with shut weeks, P1 to P13, the samples and some random plants.
 
 use std::path::Path;
 use std::process::ExitCode;
@@ -38,18 +38,23 @@ fn all() -> Vec<Files> {
         plan: small::plan().encode(),
         slots: small::slots().encode(),
     };
-    let mut all = vec![right.clone()];
+    let with_shut_weeks = Files {
+        plant: small::long_plant().encode(),
+        plan: small::long_plan().encode(),
+        slots: small::long_slots().encode(),
+    };
+    let mut all = vec![right.clone(), with_shut_weeks];
     for fact in facts::all() {
         all.push(Files {
             plant: fact.plant.encode(),
             plan: fact.plan.encode(),
-            slots: right.slots.clone(),
+            slots: fact.slots.map_or(right.slots.clone(), |slots| slots.encode()),
         });
     }
-    let damaged = |sample: samples::Sample| sample.bytes;
-    all.extend(samples::plants().into_iter().map(|s| Files { plant: damaged(s), ..right.clone() }));
-    all.extend(samples::plans().into_iter().map(|s| Files { plan: damaged(s), ..right.clone() }));
-    all.extend(samples::slots().into_iter().map(|s| Files { slots: damaged(s), ..right.clone() }));
+    let bytes = |sample: samples::Sample| sample.bytes;
+    all.extend(samples::plants().into_iter().map(|s| Files { plant: bytes(s), ..right.clone() }));
+    all.extend(samples::plans().into_iter().map(|s| Files { plan: bytes(s), ..right.clone() }));
+    all.extend(samples::slots().into_iter().map(|s| Files { slots: bytes(s), ..right.clone() }));
 
     let mut random = Random::new(5);
     for turn in 0..64 {

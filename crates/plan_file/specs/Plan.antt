@@ -16,7 +16,7 @@ pub record LinePlan : Type 0 where
   pub assigned : ℕ → ℕ → ℕ
   pub first : ℕ → ℕ → ℕ
   pub last : ℕ → ℕ → ℕ
-  -- Z and ZF, by week, product before and product after: within the week, and from the week before
+  -- Z and ZF, by week, product before and product after: within the week, and from an earlier week
   pub changeover : ℕ → ℕ → ℕ → ℕ
   pub weekChangeover : ℕ → ℕ → ℕ → ℕ
   -- O and T, by week and product: place in the week, and minutes

@@ -296,7 +296,7 @@ pub enum ProductTable {
     Minutes,
 }
 
-// The tables of changeovers: Z, within the week, and ZF, from the week before.
+// The tables of changeovers: Z, within the week, and ZF, from an earlier week.
 pub enum ChangeoverTable {
     Within,
     Between,

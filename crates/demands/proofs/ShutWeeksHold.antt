@@ -1,43 +1,35 @@
 -- Request 2026-01 holds, for every accepted plant file and every plan file that passes. Assumes nothing.
-use Prim.Native.Nat.{ℕ, _+_, _*_, _<_}
+use Prim.Native.Nat.{ℕ, _*_, _<_, _≤_}
 use mathlib.Core.Path.{_≡_, refl, sym, ap, _∙_}
-use mathlib.Core.Logic.{_↔_}
-use mathlib.Core.Bool.{Bool, true, false}
 use mathlib.Core.List.{List, [], _∷_}
 use native.Mathlib.Omega.{arith}
-use native.Mathlib.Nat.{zero-add}
 use lib.ListN.{length, getD}
-use lib.Dec.{ltb}
-use Rattle.mathematics.specs.Below.{allBelow}
-use Rattle.mathematics.specs.Week.{WeekTables, shut, NoProduct}
+use Rattle.mathematics.specs.Week.{NoProduct}
 use Rattle.mathematics.specs.Order.{ProductsBelow, assignedIn}
-use Rattle.mathematics.proofs.Below.{sum-zero, term-le-sum, each-all, both-and, is-same, at-within}
-use Rattle.mathematics.proofs.WeekRules.{shut-facts, facts-shut}
+use Rattle.mathematics.proofs.Below.{sum-zero, is-same}
+use Rattle.mathematics.proofs.WeekRules.{shut-each}
 use Rattle.mathematics.proofs.OrderTheorem as order
 use Rattle.numbers.specs.Number.{Bytes}
-use Rattle.contents.specs.Contents.{headed, placed, sized, cell}
 use Rattle.sections.specs.declared.Shape.{Shape}
-use Rattle.sections.specs.declared.Form.the-variants.{Good, Refused}
-use Rattle.sections.specs.Rows.{row}
-use Rattle.sections.specs.Section.{inRange}
+use Rattle.sections.specs.declared.Form.the-variants.{Good}
 use Rattle.plant_file.specs.Plant.{Plant, plantOf}
 use Rattle.plant_file.specs.Form.{plantForm}
 use Rattle.plant_file.specs.Ranges.{PlantRanges}
 use Rattle.plant_file.proofs.PlantInRange.{plant-ranges}
 use Rattle.plan_file.specs.Plan.{Plan, planOf}
-use Rattle.slot_file.specs.Slots.{Slot, slotCount, slotAt, slotsBefore, orderOfSlots, Slots, slotsOf}
-use Rattle.slot_file.specs.Form.{slotLengths, slotsInRange, slotForm}
+use Rattle.slot_file.specs.Slots.{Slot, slotCount, orderOfSlots, Slots, slotsOf}
 use Rattle.slot_file.proofs.Orders.{order-below}
-use Rattle.slot_file.proofs.SlotReads.{week-length}
-use Rattle.costs.specs.Mounted.{openingMounted}
+use Rattle.slot_file.proofs.SlotReads.{week-length, formed-not-24}
+use Rattle.costs.specs.Mounted.{isMounted, openingMounted}
 use Rattle.machine.specs.declared.State.{State}
 use Rattle.rules.specs.Rules.{weekOf, mountedAfter, mountedBefore}
 use Rattle.rules.proofs.Weeks.{end-over, end-opening}
 use Rattle.rules.proofs.Words.{same-verdict}
-use Rattle.model.specs.RunTables.{minutesOf, lineTables, runTables}
+use Rattle.model.specs.RunTables.{minutesOf, lineTables, mountedAt, runTables}
 use Rattle.model.specs.Match.{Gives}
 use Rattle.model.proofs.RuleFacts.{amounts-of}
-use Rattle.model.proofs.GivenPlans.{is-order, plan-agree, given-rules, mounted-before}
+use Rattle.model.proofs.GivenPlans.{is-order, plan-agree, given-rules}
+use Rattle.model.proofs.RunStates as run-states
 use Rattle.model.proofs.SmallPlantFacts.{small-plant-facts}
 use Rattle.model.specs.SmallPlant.{Fact, judged}
 use Rattle.rules.specs.declared.Verdict.the-variants.{Broken}
@@ -53,38 +45,6 @@ use Rattle.demands.proofs.ThirdDemandHolds.{given, slot-answer, third-d
 no-slots : (N : ℕ) (xs : List Slot) → ProductsBelow N (orderOfSlots xs) → ((i : ℕ) → i < N → assignedIn (orderOfSlots xs) i ≡ 0) → xs ≡ []
 no-slots N [] b h = refl
 no-slots N (x ∷ xs) b h = absurd (omega (arith, h (x .product) (b 0 (omega arith)), is-same (x .product) (x .product) refl))
-
--- none of E, F and L
-none-of-each : (N : ℕ) (x : WeekTables) → (shut N x ≡ true) ↔ ((i : ℕ) → i < N → (x .assigned i ≡ 0) × (x .first i ≡ 0) × (x .last i ≡ 0))
-none-of-each N x = (
-  λ h i l.
-      let r = shut-facts N x h in (
-        omega (arith, r .0, term-le-sum N (x .assigned) i l),
-        omega (arith, r .1, term-le-sum N (x .first) i l),
-        omega (arith, r .2, term-le-sum N (x .last) i l),
-      ),
-  λ h. facts-shut N x (sum-zero N (x .assigned) (λ i l. h i l .0)) (sum-zero N (x .first) (λ i l. h i l .1)) (sum-zero N (x .last) (λ i l. h i l .2)),
-)
-
--- row 24 with counts of 0
-not-24 : (f : Shape) (a b c : Bool) → row 21 a (row 22 b (row 23 c (Good f))) ≡ Refused 24 → ⊥
-not-24 f true true true e = let z : _≡_ {A = ℕ} 0 1 = cc in omega arith
-not-24 f true true false e = let z : _≡_ {A = ℕ} 23 24 = cc in omega arith
-not-24 f true false c e = let z : _≡_ {A = ℕ} 22 24 = cc in omega arith
-not-24 f false b c e = let z : _≡_ {A = ℕ} 21 24 = cc in omega arith
-
-counted : (f : Shape) (s : List ℕ) → ((w : ℕ) → w < f .weeks → slotCount s w ≡ 0) → slotsInRange s f ≡ true
-unfolding slotsInRange inRange slotCount slotsBefore
-counted f s none =
-    let total : slotsBefore s (f .weeks) ≡ 0 = sum-zero (f .weeks) (slotCount s) none in
-    both-and (inRange 1 s 0 0 (f .weeks) 0 (f .products)) (allBelow (slotsBefore s (f .weeks)) (λ j. ltb (slotAt s j .product) (f .products)))
-    (each-all (f .weeks) _ (λ w l. at-within 0 (f .products) (cell 1 s 0 (0 + w)) (omega arith) (rw zero-add (omega (arith, none w l)))))
-    (ap (λ (n : ℕ). allBelow n (λ j. ltb (slotAt s j .product) (f .products))) total)
-
-count-of-0 : (f : Shape) (s : List ℕ) → ((w : ℕ) → w < f .weeks → slotCount s w ≡ 0) → slotForm f s ≡ Refused 24 → ⊥
-unfolding slotForm
-count-of-0 f s none e =
-    not-24 f (headed s 3 41 3) (placed s 3) (sized s (slotLengths f (slotsBefore s (f .weeks)))) (rw (counted f s none) at e)
 
 -- ---- a plan that slots give
 module _ (plant : List ℕ) (f : Shape) (accepted : plantForm plant ≡ Good f) (plan : List ℕ) (b : Bytes plan)
@@ -104,13 +64,17 @@ module _ (plant : List ℕ) (f : Shape) (accepted : plantForm plant ≡ Good f) 
   g : Gives P S s X
   g = given plant f accepted plan b slots s gives
 
+  mounted-before : (w : ℕ) → w ≤ f .weeks → (i : ℕ) → i < f .products
+      → mountedBefore (f .products) (P .line) (X .line) w i ≡ isMounted (mountedAt P S w) i
+  mounted-before = run-states.mounted-before P S (X .line) (f .weeks) (g .formed) (plan-agree R g)
+
   -- ZF leads from what is mounted before the week to its first product
   between : (w : ℕ) → w < f .weeks → (i j : ℕ) → i < f .products → j < f .products
       → X .line .weekChangeover w i j ≡ mountedBefore (f .products) (P .line) (X .line) w i * X .line .first w j
   unfolding runTables lineTables weekOf
   between w l i j k m =
       g .same .line .weekChangeover w i j l k m
-      ∙ (λ u. sym (mounted-before R g w (omega arith) i k) u * sym (plan-agree R g w l .first j m) u)
+      ∙ (λ u. sym (mounted-before w (omega arith) i k) u * sym (plan-agree R g w l .first j m) u)
 
   -- ---- a week without E
   module _ (w : ℕ) (l : w < f .weeks) (none : (i : ℕ) → i < f .products → X .line .assigned w i ≡ 0) where
@@ -175,12 +139,12 @@ module _ (plant : List ℕ) (f : Shape) (accepted : plantForm plant ≡ Good f) 
         sales-happen = shut-sales;
         passage = passage;
         first-passage = first-passage;
-        none-of-each = none-of-each (f .products);
+        none-of-each = shut-each (f .products);
         rule-33 = same-verdict P;
-        count-of-0 = count-of-0 f;
+        count-of-0 = formed-not-24 f;
         case-10 = ap (λ (l : List Fact). getD l 9 (judged (Broken 0))) small-plant-facts;
         case-13 = ap (λ (l : List Fact). getD l 12 (judged (Broken 0))) small-plant-facts;
-        mounted-before = mounted-before R g;
+        mounted-before = mounted-before;
       }
 
 -- ---- a plan that passes, and what slot return answers

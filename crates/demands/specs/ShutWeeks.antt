@@ -13,7 +13,7 @@ use Rattle.sections.specs.declared.Shape.{Shape}
 use Rattle.sections.specs.declared.Form.the-variants.{Refused}
 use Rattle.plant_file.specs.Plant.{Plant, plantOf}
 use Rattle.plan_file.specs.Plan.{Plan, planOf}
-use Rattle.slot_file.specs.Slots.{slotCount, slotsOf}
+use Rattle.slot_file.specs.Slots.{WeekFormed, slotCount, slotsOf}
 use Rattle.slot_file.specs.Form.{slotForm}
 use Rattle.costs.specs.Mounted.{isMounted}
 use Rattle.machine.specs.declared.Outcome.the-variants.{Continues, Stops}
@@ -67,8 +67,8 @@ pub record ShutWeeks (plant : List ℕ) (f : Shape) (plan slots : List ℕ) : Ty
       ↔ ((i : ℕ) → i < f .products → (x .assigned i ≡ 0) × (x .first i ≡ 0) × (x .last i ≡ 0))
   -- "rule 33 takes that earlier week (all 0 in a shut week or with none earlier)": for every plan, passed or not
   pub rule-33 : (x : Plan) → verdictOf (plantOf f plant) x ≡ verdictInWords (plantOf f plant) x
-  -- "24 admits a count of 0": in each week
-  pub count-of-0 : (s : List ℕ) → ((w : ℕ) → w < f .weeks → slotCount s w ≡ 0) → slotForm f s ≡ Refused 24 → ⊥
+  -- "24 admits a count of 0": no file is refused with it whose weeks have 0 to N slots each, of products below N
+  pub count-of-0 : (s : List ℕ) → ((w : ℕ) → w < f .weeks → WeekFormed (f .products) (slotsOf f s .line .week w)) → slotForm f s ≡ Refused 24 → ⊥
   -- "case P10 gives 39", in the rules and in the run, "but passes with second sales of 100,000 and 0"
   pub case-10 : caseOf 10 ≡ ran (Broken 39) (Stops 39)
   pub case-13 : caseOf 13 ≡ ran (Passed (record { 0 = pos 4500000 })) Continues

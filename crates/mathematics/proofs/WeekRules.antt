@@ -1,7 +1,7 @@
 -- What the rules 31, 32 and 34 say of a week's tables, as facts about numbers, both ways. Assumes nothing.
 use Prim.Native.Nat.{ℕ, _+_, _<_, _≤_}
 use mathlib.Core.Path.{_≡_, refl, sym, _∙_}
-use mathlib.Core.Logic.{_≢_, _⊎_, inl, inr}
+use mathlib.Core.Logic.{_↔_, _≢_, _⊎_, inl, inr}
 use mathlib.Core.Bool.{Bool, true, false, _&&_, _||_, cond}
 use native.Mathlib.Omega.{arith}
 use native.Mathlib.Decide.{ℕ-discrete}
@@ -10,7 +10,7 @@ use borrow.Author.Tests.{eqb-true, eqb-false, leb-true, eq-eqb, ne-eqb, le-leb}
 use Rattle.mathematics.specs.Below.{sumBelow, allBelow, implies, within}
 use Rattle.mathematics.specs.Week.{WeekTables, count, binary, markedOnce, oneEach, shut, rule31, rule32, rule34, Meets}
 use Rattle.mathematics.specs.Order.{Agree}
-use Rattle.mathematics.proofs.Below.{sum-ext, sum-add, sum-swap, all-each, each-all}
+use Rattle.mathematics.proofs.Below.{sum-ext, sum-zero, sum-add, sum-swap, term-le-sum, all-each, each-all}
 use Rattle.mathematics.proofs.Below.{and-both, and-three, and-four, both-and, implies-at, at-implies, within-at, at-within}
 use Rattle.mathematics.proofs.Sums.{bit-zero, all-equal, equal-all}
 
@@ -173,6 +173,18 @@ module _ (N : ℕ) (x : WeekTables) where
   unfolding shut
   facts-shut e f l =
       both-and _ _ (both-and _ _ (eq-eqb (count N x) 0 e) (eq-eqb (sumBelow N (x .first)) 0 f)) (eq-eqb (sumBelow N (x .last)) 0 l)
+
+  -- mark by mark
+  pub shut-each : (shut N x ≡ true) ↔ ((i : ℕ) → i < N → (x .assigned i ≡ 0) × (x .first i ≡ 0) × (x .last i ≡ 0))
+  shut-each = (
+    λ h i l.
+        let r = shut-facts h in (
+          omega (arith, r .0, term-le-sum N (x .assigned) i l),
+          omega (arith, r .1, term-le-sum N (x .first) i l),
+          omega (arith, r .2, term-le-sum N (x .last) i l),
+        ),
+    λ h. facts-shut (sum-zero N (x .assigned) (λ i l. h i l .0)) (sum-zero N (x .first) (λ i l. h i l .1)) (sum-zero N (x .last) (λ i l. h i l .2)),
+  )
 
   -- a week with a product is not shut
   pub not-shut : count N x ≢ 0 → shut N x ≡ false

@@ -19,13 +19,13 @@ use Rattle.plan_file.specs.Plan.{Plan}
 use Rattle.slot_file.specs.Slots.{Slot, orderOfSlots, Slots}
 use Rattle.machine.specs.declared.State.{State}
 use Rattle.machine.specs.Run.{after}
-use Rattle.rules.specs.Rules.{weekOf, mountedBefore}
+use Rattle.rules.specs.Rules.{weekOf}
 use Rattle.costs.specs.Mounted.{isMounted}
 use Rattle.model.specs.RunTables.{minutesOf, lineTables, mountedAt, runTables}
 use Rattle.model.specs.Model.{Binary, AmountModel}
 use Rattle.model.specs.Match.{Gives}
 use Rattle.model.proofs.Changeovers.{mounted-bit, no-minutes}
-use Rattle.model.proofs.RunStates.{mounted-marks, after-profit}
+use Rattle.model.proofs.RunStates.{after-profit}
 use Rattle.model.proofs.Stops.{WeekContinues, run-continued}
 use Rattle.model.proofs.RuleFacts.{RulesHold, Times, rules-hold}
 use Rattle.model.proofs.SamePlans.{SameTables, same-tables, week-agree, profit-same, plan-times-same, amounts-same, passages-same}
@@ -47,11 +47,6 @@ module _ {P : Plant} (R : PlantRanges P) {S : Slots} {s : State} {x : Plan} (g :
 
   plan-meets : (w : ℕ) → w < P .weeks → Meets (P .products) (weekOf (x .line) w)
   plan-meets w l = order-meets (P .products) (weekOf (x .line) w) (orderOfSlots (S .line .week w)) (is-order w l) (plan-agree w l)
-
-  -- what the plan's tables say is mounted before a week is what the run has mounted then
-  pub mounted-before : (w : ℕ) → w ≤ P .weeks → (i : ℕ) → i < P .products
-      → mountedBefore (P .products) (P .line) (x .line) w i ≡ isMounted (mountedAt P S w) i
-  mounted-before = mounted-marks P S (x .line) (P .weeks) (g .formed) plan-agree
 
   amounts : (w : ℕ) → w < P .weeks → AmountModel P x w
   amounts w l = amounts-same P x (runTables P S) tables w l (run-amounts P R S w (g .formed w l) (continued .0 w l))

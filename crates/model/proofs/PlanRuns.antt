@@ -29,7 +29,7 @@ use Rattle.model.specs.Match.{Gives, slotsFor, lineShown, slotsShown}
 use Rattle.model.proofs.States.{mark, begin-ran, opening-inventory, opening-backlog}
 use Rattle.model.proofs.Changeovers.{mounted-one, is-move, sum-minutes}
 use Rattle.model.proofs.Grids.{crossed}
-use Rattle.model.proofs.RunStates.{ran, mounted-below, mounted-marks, changeover-total, ran-clock, after-profit}
+use Rattle.model.proofs.RunStates.{ran, mounted-below, mounted-before, changeover-total, ran-clock, after-profit}
 use Rattle.model.proofs.RunStates.{ran-backlog, ran-inventory, after-backlog, after-inventory}
 use Rattle.model.proofs.Stops.{SlotsContinue, EndContinues, run-continues}
 use Rattle.model.proofs.RuleFacts.{RulesHold, under-minutes, Times, rules-times, amounts-of, passage-facts, profit-of}
@@ -120,7 +120,7 @@ module _ (P : Plant) (x : Plan) (b : Binary P x) (r : RulesHold P x) where
   between-same w l i j k m =
       let h = passage-facts (P .products) (P .line) (x .line) w (r .r33 w l) in
       let before : (i : ℕ) → i < P .products → mountedBefore (P .products) (P .line) (x .line) w i ≡ isMounted (mountedAt P S w) i =
-      mounted-marks P S (x .line) (P .weeks) formed plan-agree w (omega arith) in
+      mounted-before P S (x .line) (P .weeks) formed plan-agree w (omega arith) in
       let one : sumBelow (P .products) (mountedBefore (P .products) (P .line) (x .line) w) ≤ 1 =
       omega (
         arith,

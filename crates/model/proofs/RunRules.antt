@@ -19,7 +19,7 @@ use Rattle.model.specs.RunTables.{minutesOf, lineTables, mountedAt, runT
 use Rattle.model.specs.Model.{AmountModel}
 use Rattle.model.proofs.Grids.{columns-sum, rows-sum}
 use Rattle.model.proofs.Changeovers.{totalMinutes, totalChangeover, no-minutes, minutes-part, sum-minutes}
-use Rattle.model.proofs.RunStates.{FormedTo, mounted-marks, changeover-total, ran-clock}
+use Rattle.model.proofs.RunStates.{FormedTo, mounted-before, changeover-total, ran-clock}
 use Rattle.model.proofs.RunStates.{backlog-before, inventory-before, ran-backlog, ran-inventory, after-backlog, after-inventory}
 use Rattle.model.proofs.Stops.{WeekContinues}
 use Rattle.model.proofs.RuleFacts.{under-minutes, facts-passage, Times}
@@ -90,7 +90,7 @@ module _ (P : Plant) (R : PlantRanges P) (S : Slots) where
         let first = firstIn (orderOfSlots (S .line .week w)) in
         let before = mountedBefore (P .products) (P .line) x w in
         let cells : (i j : ℕ) → i < P .products → j < P .products → isMounted (mountedAt P S w) i * first j ≡ before i * first j =
-        λ i j k m. ap (λ (u : ℕ). u * first j) (sym (mounted-marks P S x n f (λ v a. agree-refl (P .products) (weekOf x v)) w (omega arith) i k)) in
+        λ i j k m. ap (λ (u : ℕ). u * first j) (sym (mounted-before P S x n f (λ v a. agree-refl (P .products) (weekOf x v)) w (omega arith) i k)) in
         facts-passage (P .products) (P .line) x w (record {
           into-first = columns-sum (P .products) first before (x .weekChangeover w) cells;
           out-of-mounted = rows-sum (P .products) first before (x .weekChangeover w) cells;

@@ -127,15 +127,15 @@ module _ (P : Plant) (S : Slots) where
       rw (after-mounted n) (last-below (P .products) (mountedAt P S n) (order n)
       (mounted-below n (λ w l. f w (omega arith))) (order-below (P .products) (S .line .week n) (f n (omega arith))))
 
-  -- what is mounted before a week, by the tables of a plan that has these orders
-  pub mounted-marks : (x : LinePlan) (n : ℕ) → FormedTo n → ((w : ℕ) → w < n → Agree (P .products) (weekOf x w) (orderTables (order w)))
+  -- what a plan's tables say is mounted before a week is what the run has mounted then, where each week's tables are those of its slots' order
+  pub mounted-before : (x : LinePlan) (n : ℕ) → FormedTo n → ((w : ℕ) → w < n → Agree (P .products) (weekOf x w) (orderTables (order w)))
       → (w : ℕ) → w ≤ n → (i : ℕ) → i < P .products → mountedBefore (P .products) (P .line) x w i ≡ isMounted (mountedAt P S w) i
   unfolding mountedBefore mountedAfter productionEnd opening weekOf
-  mounted-marks x n f a zero l i k = refl
-  mounted-marks x n f a (suc w) l i k =
+  mounted-before x n f a zero l i k = refl
+  mounted-before x n f a (suc w) l i k =
       mounted-next (P .products) x (P .line) w i
       ∙ (mounted-step (P .products) (mountedAt P S w) (order w) (weekOf x w) (order-below (P .products) (S .line .week w) (f w l)) (a w l) _ i k
-      (mounted-marks x n f a w (omega arith) i k)
+      (mounted-before x n f a w (omega arith) i k)
       ∙ sym (ap (λ (m : Mounted). isMounted m i) (after-mounted w)))
 
   -- changeovers by the tables

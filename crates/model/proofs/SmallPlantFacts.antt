@@ -42,5 +42,6 @@ small-plant-facts =
     unfold salesDue backlogAfter salesInStock inventoryAfter storageKept booked weekDone weekEnd opening runWeek run ranWeek in
     unfold is markedOnce oneEach shut rule31 rule32 rule34 weekOf productionEnd mountedAfter mountedBefore in
     unfold rule33 rule35 rule36 rule37 rule38 rule39 rule40 rule41 trials tried profitTried verdictOf in
-    unfold openingMounted changeoverBetween changeoversUnder changeoversIn backlogBefore inventoryBefore revenueIn changeoverChargeIn backlogChargeIn inventoryChargeIn profitOf in
+    unfold openingMounted changeoverBetween changeoversUnder changeoversIn backlogBefore inventoryBefore in
+    unfold revenueIn changeoverChargeIn backlogChargeIn inventoryChargeIn profitOf in
     refl

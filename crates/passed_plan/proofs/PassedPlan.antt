@@ -27,9 +27,9 @@ use Rattle.model.specs.Model.{Binary}
 use Rattle.model.specs.Match.{Gives}
 use Rattle.model.proofs.RuleFacts.{verdict-rules}
 use Rattle.model.proofs.PlanRuns.{plan-meets}
-use Rattle.model.proofs.GivenPlans.{mounted-before}
+use Rattle.model.proofs.GivenPlans.{plan-agree}
 use Rattle.model.proofs.Changeovers.{mounted-of}
-use Rattle.model.proofs.RunStates.{mounted-below}
+use Rattle.model.proofs.RunStates.{mounted-below, mounted-before}
 use Rattle.model.proofs.Agreement.{passing-runs, fits-binary}
 use Rattle.passed_plan.specs.declared.Pass.{Pass}
 use Rattle.passed_plan.specs.declared.Judgement.{Judgement}
@@ -100,5 +100,6 @@ passed-plan f plant plan q bytes h =
       given = g;
       mounted = λ w l.
           mounted-of (f .products) (mountedAt P (shownIn f plan) w) (mountedBefore (f .products) (P .line) (x .line) w)
-          (mounted-below P (shownIn f plan) w (λ v k. g .formed v (omega arith))) (mounted-before R g w (omega arith));
+          (mounted-below P (shownIn f plan) w (λ v k. g .formed v (omega arith)))
+          (mounted-before P (shownIn f plan) (x .line) (f .weeks) (g .formed) (plan-agree R g) w (omega arith));
     }

@@ -118,9 +118,10 @@ fn is_shut(plan: &[u8], f: Shape, week: usize) -> bool
     if week_sum(plan, f, ProductTable::Assigned, week) != 0 {
         return false;
     }
-    let firsts = week_sum(plan, f, ProductTable::First, week);
-    let lasts = week_sum(plan, f, ProductTable::Last, week);
-    and(firsts == 0, lasts == 0)
+    if week_sum(plan, f, ProductTable::First, week) != 0 {
+        return false;
+    }
+    week_sum(plan, f, ProductTable::Last, week) == 0
 }
 
 // 31 in a week.

@@ -5,24 +5,21 @@ use mathlib.Core.Path.{_≡_, sym, ap, _∙_}
 use mathlib.Core.Bool.{true}
 use mathlib.Core.List.{List, [], _∷_, _++_, map}
 use native.Mathlib.Omega.{arith}
-use native.Mathlib.Nat.{add-zero, zero-add, mul-comm, mul-le-mul}
+use native.Mathlib.Nat.{add-zero, mul-comm, mul-le-mul}
 use lib.ListN.{length, getD}
 use lib.Seq.{ext-getD}
-use borrow.Author.Tests.{lt-ltb}
-use Rattle.mathematics.specs.Below.{sumBelow, within}
-use Rattle.mathematics.proofs.Below.{sum-ext, sum-mul, sum-mono, sum-const, both-and, each-all, at-within}
+use Rattle.mathematics.specs.Below.{sumBelow}
+use Rattle.mathematics.proofs.Below.{sum-ext, sum-mul, sum-mono, sum-const}
 use Rattle.mathematics.proofs.Join.{join-length}
-use Rattle.mathematics.proofs.Lists.{run-of}
 use Rattle.numbers.specs.Number.{Bytes, digits, part}
 use Rattle.numbers.proofs.Number.{encode-length, number-digits}
 use Rattle.numbers.proofs.Store.{part-part, join-at}
 use Rattle.numbers.proofs.ByteLists.{bytes-none, bytes-append, bytes-join, bytes-digits, bytes-encode}
-use Rattle.contents.specs.Contents.{offset, extent, cell, sized}
+use Rattle.contents.specs.Contents.{offset, extent, sized}
 use Rattle.contents.specs.File.{start, Listable}
 use Rattle.contents.proofs.Facts.{at-sized}
 use Rattle.contents.proofs.FileWritten as laid
 use Rattle.contents.proofs.FileLayout as layout
-use Rattle.sections.specs.Section.{inRange}
 use Rattle.sections.specs.declared.Shape.{Shape}
 use Rattle.sections.specs.declared.Form.the-variants.{Good}
 use Rattle.sections.proofs.Places.{byte-most}
@@ -34,7 +31,7 @@ use Rattle.slot_file.specs.Form.{slotLengths, slotsInRange, slotForm}
 use Rattle.slot_file.specs.File.{slotBytes, slotBodies, slotFile}
 use Rattle.slot_file.proofs.SlotBytes.{bytesOf, slot-join, bytes-length}
 use Rattle.slot_file.proofs.SlotPlaces.{slot-listable}
-use Rattle.slot_file.proofs.SlotReads.{week-length, week-slot}
+use Rattle.slot_file.proofs.SlotReads.{week-length, week-slot, formed-range}
 
 -- the slot whose bytes stand at its place
 slot-read : (s : List ℕ) (j : ℕ) (x : Slot) → part s (offset s 1 + 3 * j) 3 ≡ bytesOf x → x .product < 256 → x .minutes < 2 ^ 16 → slotAt s j ≡ x
@@ -147,22 +144,8 @@ module _ (f : Shape) (x : Slots) where
         }
 
     -- ---- rows 21 to 24
-    count-range : (w : ℕ) → w < f .weeks → within 0 (f .products) (cell 1 F 0 (0 + w)) ≡ true
-    unfolding slotCount
-    count-range w l =
-        let n = count-at w l in
-        rw (zero-add w) (at-within 0 (f .products) (slotCount F w) (omega arith) (omega (arith, h .formed w l .few)))
-
-    product-below : (j : ℕ) → j < slotsBefore F (f .weeks) → slotAt F j .product < f .products
-    product-below j l =
-        let r = run-of (f .weeks) count j (omega (arith, before-at (f .weeks) (omega arith))) in
-        let e : j ≡ slotsBefore F (r .which) + r .place = omega (arith, before-at (r .which) (omega (arith, r .known)), r .stands) in
-        rw (e, slot-at (r .which) (r .place) (r .known) (r .inside)) (h .formed (r .which) (r .known) .product (r .place) (r .inside))
-
     in-range : slotsInRange F f ≡ true
-    unfolding slotsInRange inRange
-    in-range =
-        both-and _ _ (each-all (f .weeks) _ count-range) (each-all (slotsBefore F (f .weeks)) _ (λ j l. lt-ltb _ _ (product-below j l)))
+    in-range = formed-range f F (λ w l. rw (week-at w l) (h .formed w l))
 
     sizes : sized F (slotLengths f (slotsBefore F (f .weeks))) ≡ true
     sizes = rw (before-at (f .weeks) (omega arith)) (at-sized F (slotLengths f total) (λ i l. extents i l))

@@ -1,26 +1,28 @@
 -- What a slot file that passes its rows holds: the rows as facts, and the numbers of `slotsOf` within their ranges. Assumes nothing.
 use Prim.Native.Nat.{ℕ, suc, _+_, _*_, _≤_, _<_, _^_}
 use mathlib.Core.Path.{_≡_, refl}
-use mathlib.Core.Bool.{true}
+use mathlib.Core.Bool.{Bool, true, false}
 use mathlib.Core.List.{List}
 use native.Mathlib.Omega.{arith}
+use native.Mathlib.Nat.{zero-add}
 use lib.ListN.{length, getD}
 use lib.Dec.{ltb}
-use borrow.Author.Tests.{ltb-true}
+use borrow.Author.Tests.{ltb-true, lt-ltb}
 use Rattle.mathematics.specs.Below.{listBelow}
-use Rattle.mathematics.proofs.Below.{and-both, all-each, sum-prefix}
+use Rattle.mathematics.proofs.Below.{and-both, both-and, all-each, each-all, at-within, sum-prefix}
 use Rattle.numbers.specs.Number.{Bytes, encode}
 use Rattle.numbers.proofs.Number.{number-below}
 use Rattle.contents.specs.Contents.{offset, cell, headed, placed, sized}
 use Rattle.contents.proofs.Facts.{Headed, headed-facts}
 use Rattle.sections.specs.Section.{inRange, Laid, cube}
 use Rattle.sections.specs.declared.Shape.{Shape}
-use Rattle.sections.specs.declared.Form.the-variants.{Good}
+use Rattle.sections.specs.declared.Form.the-variants.{Good, Refused}
+use Rattle.sections.specs.Rows.{row}
 use Rattle.sections.proofs.Tables.{range-first, cube-flat}
 use Rattle.sections.proofs.Rows.{row-good}
-use Rattle.slot_file.specs.Slots.{Slot, slotCount, slotAt, slotsBefore, slotsOf, WeekFormed, SlotsFit}
+use Rattle.slot_file.specs.Slots.{Slot, noSlot, slotCount, slotAt, slotsBefore, slotsOf, WeekFormed, SlotsFit}
 use Rattle.slot_file.specs.Form.{slotLengths, slotsInRange, slotForm}
-use Rattle.mathematics.proofs.Lists.{list-length, list-at, run-below}
+use Rattle.mathematics.proofs.Lists.{list-length, list-at, run-below, run-of}
 use Rattle.slot_file.proofs.SlotPlaces.{slots-held}
 
 -- rows 21 to 24
@@ -122,3 +124,34 @@ module _ (f : Shape) (s : List ℕ) (e : slotForm f s ≡ Good f) where
         minutes = λ w k l m. rw (week-slot f s w k _ (omega (arith, week-length f s w))) (minutes-below s b (slotsBefore s w + k));
         sales = λ c i w l m n. sales-below f s b c i w;
       }
+
+-- row 24 asks no more: each week has 0 to N slots, each of a product below N
+module _ (f : Shape) (s : List ℕ) (h : (w : ℕ) → w < f .weeks → WeekFormed (f .products) (slotsOf f s .line .week w)) where
+  count-most : (w : ℕ) → w < f .weeks → slotCount s w ≤ f .products
+  count-most w l = omega (arith, h w l .few, week-length f s w)
+
+  product-below : (j : ℕ) → j < slotsBefore s (f .weeks) → slotAt s j .product < f .products
+  unfolding slotsBefore
+  product-below j l =
+      let r = run-of (f .weeks) (slotCount s) j l in
+      let b = h (r .which) (r .known) .product (r .place) (omega (arith, r .inside, week-length f s (r .which))) in
+      rw (r .stands) (rw (week-slot f s (r .which) (r .place) noSlot (r .inside)) at b)
+
+  pub formed-range : slotsInRange s f ≡ true
+  unfolding slotsInRange inRange slotCount
+  formed-range =
+      both-and _ _
+      (each-all (f .weeks) _ (λ w l. at-within 0 (f .products) (cell 1 s 0 (0 + w)) (omega arith) (rw zero-add (count-most w l))))
+      (each-all (slotsBefore s (f .weeks)) _ (λ j l. lt-ltb _ _ (product-below j l)))
+
+  -- so that no such file is refused with 24
+  pub formed-not-24 : slotForm f s ≡ Refused 24 → ⊥
+  unfolding slotForm
+  formed-not-24 e =
+      go (headed s 3 41 3) (placed s 3) (sized s (slotLengths f (slotsBefore s (f .weeks)))) (rw formed-range at e)
+    where
+      go : (a b c : Bool) → row 21 a (row 22 b (row 23 c (Good f))) ≡ Refused 24 → ⊥
+      go true true true e = let z : _≡_ {A = ℕ} 0 1 = cc in omega arith
+      go true true false e = let z : _≡_ {A = ℕ} 23 24 = cc in omega arith
+      go true false c e = let z : _≡_ {A = ℕ} 22 24 = cc in omega arith
+      go false b c e = let z : _≡_ {A = ℕ} 21 24 = cc in omega arith

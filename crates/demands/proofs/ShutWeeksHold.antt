@@ -7,7 +7,7 @@ use lib.ListN.{length, getD}
 use Rattle.mathematics.specs.Week.{NoProduct}
 use Rattle.mathematics.specs.Order.{ProductsBelow, assignedIn}
 use Rattle.mathematics.proofs.Below.{sum-zero, is-same}
-use Rattle.mathematics.proofs.WeekRules.{shut-each}
+use Rattle.mathematics.proofs.WeekRules.{shut-each, rule31-facts}
 use Rattle.mathematics.proofs.OrderTheorem as order
 use Rattle.numbers.specs.Number.{Bytes}
 use Rattle.sections.specs.declared.Shape.{Shape}
@@ -139,6 +139,7 @@ module _ (plant : List ℕ) (f : Shape) (accepted : plantForm plant ≡ Good f) 
         sales-happen = shut-sales;
         passage = passage;
         first-passage = first-passage;
+        rule-31 = rule31-facts (f .products);
         none-of-each = shut-each (f .products);
         rule-33 = same-verdict P;
         count-of-0 = formed-not-24 f;

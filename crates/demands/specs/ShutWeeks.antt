@@ -2,13 +2,13 @@
 -- that slot return answers with. Each sentence of the request is a field, or a few. Assumes nothing.
 use Prim.Native.Nat.{ℕ, _+_, _*_, _-_, _≤_, _<_}
 use mathlib.Core.Path.{_≡_}
-use mathlib.Core.Logic.{_↔_}
+use mathlib.Core.Logic.{_↔_, _⊎_}
 use mathlib.Core.Bool.{true, false}
 use mathlib.Core.List.{List, map}
 use lib.ListN.{getD}
 use lib.IntN.{pos}
 use Rattle.mathematics.specs.Below.{sumBelow}
-use Rattle.mathematics.specs.Week.{WeekTables, shut, NoProduct}
+use Rattle.mathematics.specs.Week.{WeekTables, shut, rule31, OneMark, NoMark, NoProduct}
 use Rattle.sections.specs.declared.Shape.{Shape}
 use Rattle.sections.specs.declared.Form.the-variants.{Refused}
 use Rattle.plant_file.specs.Plant.{Plant, plantOf}
@@ -62,9 +62,10 @@ pub record ShutWeeks (plant : List ℕ) (f : Shape) (plan slots : List ℕ) : Ty
   -- "if there was one"
   pub first-passage : (w : ℕ) → w < f .weeks → ((u : ℕ) → u < w → IsShut f (planOf f plan) u)
       → (i j : ℕ) → i < f .products → j < f .products → planOf f plan .line .weekChangeover w i j ≡ 0
-  -- "Rule 31 becomes .. or none of E, F and L"
-  pub none-of-each : (x : WeekTables) → (shut (f .products) x ≡ true)
-      ↔ ((i : ℕ) → i < f .products → (x .assigned i ≡ 0) × (x .first i ≡ 0) × (x .last i ≡ 0))
+  -- "Rule 31 becomes "one F and one L, each on a product with E = 1, or none of E, F and L"": the latter is what is called shut here
+  pub rule-31 : (x : WeekTables) → (rule31 (f .products) x ≡ true)
+      ↔ ((OneMark (f .products) (x .first) (x .assigned) × OneMark (f .products) (x .last) (x .assigned)) ⊎ NoMark (f .products) x)
+  pub none-of-each : (x : WeekTables) → (shut (f .products) x ≡ true) ↔ NoMark (f .products) x
   -- "rule 33 takes that earlier week (all 0 in a shut week or with none earlier)": for every plan, passed or not
   pub rule-33 : (x : Plan) → verdictOf (plantOf f plant) x ≡ verdictInWords (plantOf f plant) x
   -- "24 admits a count of 0": no file is refused with it whose weeks have 0 to N slots each, of products below N

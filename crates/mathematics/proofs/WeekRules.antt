@@ -2,13 +2,13 @@
 use Prim.Native.Nat.{ℕ, _+_, _<_, _≤_}
 use mathlib.Core.Path.{_≡_, refl, sym, _∙_}
 use mathlib.Core.Logic.{_↔_, _≢_, _⊎_, inl, inr}
-use mathlib.Core.Bool.{Bool, true, false, _&&_, _||_, cond}
+use mathlib.Core.Bool.{Bool, true, false, _&&_, _||_, cond, or-true}
 use native.Mathlib.Omega.{arith}
 use native.Mathlib.Decide.{ℕ-discrete}
 use lib.Dec.{eqb, leb}
 use borrow.Author.Tests.{eqb-true, eqb-false, leb-true, eq-eqb, ne-eqb, le-leb}
 use Rattle.mathematics.specs.Below.{sumBelow, allBelow, implies, within}
-use Rattle.mathematics.specs.Week.{WeekTables, count, binary, markedOnce, oneEach, shut, rule31, rule32, rule34, Meets}
+use Rattle.mathematics.specs.Week.{WeekTables, count, binary, markedOnce, oneEach, shut, rule31, OneMark, NoMark, rule32, rule34, Meets}
 use Rattle.mathematics.specs.Order.{Agree}
 use Rattle.mathematics.proofs.Below.{sum-ext, sum-zero, sum-add, sum-swap, term-le-sum, all-each, each-all}
 use Rattle.mathematics.proofs.Below.{and-both, and-three, and-four, both-and, implies-at, at-implies, within-at, at-within}
@@ -50,11 +50,8 @@ module _ {N : ℕ} {x : WeekTables} (w : WeekFacts N x) where
 
 -- ---- the parts of the rules, over any table
 -- one mark, on a product that is assigned
-abbrev pub OnceFacts : ℕ → (mark assigned : ℕ → ℕ) → Type 0
-OnceFacts N mark assigned = (sumBelow N mark ≡ 1) × ((i : ℕ) → i < N → mark i ≡ 1 → assigned i ≡ 1)
-
 module _ (N : ℕ) (mark assigned : ℕ → ℕ) where
-  once-facts : markedOnce N mark assigned ≡ true → OnceFacts N mark assigned
+  once-facts : markedOnce N mark assigned ≡ true → OneMark N mark assigned
   unfolding markedOnce
   once-facts h =
       let r = and-both (eqb (sumBelow N mark) 1) (allBelow N (λ i. implies (eqb (mark i) 1) (eqb (assigned i) 1))) h in (
@@ -62,7 +59,7 @@ module _ (N : ℕ) (mark assigned : ℕ → ℕ) where
         λ i l e. eqb-true (assigned i) 1 (implies-at (eqb (mark i) 1) (eqb (assigned i) 1) (all-each N _ (r .1) i l) (eq-eqb (mark i) 1 e)),
       )
 
-  facts-once : OnceFacts N mark assigned → markedOnce N mark assigned ≡ true
+  facts-once : OneMark N mark assigned → markedOnce N mark assigned ≡ true
   unfolding markedOnce
   facts-once h =
       both-and _ _ (eq-eqb (sumBelow N mark) 1 (h .0)) (each-all N _ (λ i l. at-implies (eqb (mark i) 1) (eqb (assigned i) 1)
@@ -107,7 +104,7 @@ module _ (N : ℕ) (x : WeekTables) where
       (le-leb (x .last i) 1 (h i l .2)))
       (each-all N _ (λ j m. le-leb (x .changeover i j) 1 (h i l .3 j m))))
 
-  pub facts31 : oneEach N x ≡ true → OnceFacts N (x .first) (x .assigned) × OnceFacts N (x .last) (x .assigned)
+  pub facts31 : oneEach N x ≡ true → OneMark N (x .first) (x .assigned) × OneMark N (x .last) (x .assigned)
   unfolding oneEach
   facts31 h =
       let r = and-both (markedOnce N (x .first) (x .assigned)) (markedOnce N (x .last) (x .assigned)) h in
@@ -175,7 +172,7 @@ module _ (N : ℕ) (x : WeekTables) where
       both-and _ _ (both-and _ _ (eq-eqb (count N x) 0 e) (eq-eqb (sumBelow N (x .first)) 0 f)) (eq-eqb (sumBelow N (x .last)) 0 l)
 
   -- mark by mark
-  pub shut-each : (shut N x ≡ true) ↔ ((i : ℕ) → i < N → (x .assigned i ≡ 0) × (x .first i ≡ 0) × (x .last i ≡ 0))
+  pub shut-each : (shut N x ≡ true) ↔ NoMark N x
   shut-each = (
     λ h i l.
         let r = shut-facts h in (
@@ -199,6 +196,20 @@ module _ (N : ℕ) (x : WeekTables) where
       go : (t : Bool) → oneEach N x ≡ t → t || shut N x ≡ true → (oneEach N x ≡ true) ⊎ (shut N x ≡ true)
       go true q k = inl q
       go false q k = inr k
+
+  -- the same in numbers, both ways
+  pub rule31-facts : (rule31 N x ≡ true) ↔ ((OneMark N (x .first) (x .assigned) × OneMark N (x .last) (x .assigned)) ⊎ NoMark N x)
+  unfolding rule31 oneEach
+  rule31-facts = (
+    λ h. elim (once-or-shut h) [
+      | inl once ↦ inl (facts31 once)
+      | inr none ↦ inr (shut-each .0 none)
+    ],
+    λ h. elim h [
+      | inl once ↦ rw (both-and _ _ (facts-once N (x .first) (x .assigned) (once .0)) (facts-once N (x .last) (x .assigned) (once .1)))
+      | inr none ↦ rw (shut-each .1 none) (or-true (oneEach N x))
+    ],
+  )
 
   few-first : (oneEach N x ≡ true) ⊎ (shut N x ≡ true) → sumBelow N (x .first) ≤ 1
   few-first (inl h) = omega (arith, facts31 h .0 .0)

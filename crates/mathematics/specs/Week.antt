@@ -44,6 +44,13 @@ shut N x = eqb (count N x) 0 && eqb (sumBelow N (x .first)) 0 && eqb (sumBelow N
 unfoldable pub rule31 : ℕ → WeekTables → Bool
 rule31 N x = oneEach N x || shut N x
 
+-- its two sides in numbers: one mark, "on a product with E = 1"; "none of E, F and L"
+abbrev pub OneMark : ℕ → (mark assigned : ℕ → ℕ) → Type 0
+OneMark N mark assigned = (sumBelow N mark ≡ 1) × ((i : ℕ) → i < N → mark i ≡ 1 → assigned i ≡ 1)
+
+abbrev pub NoMark : ℕ → WeekTables → Type 0
+NoMark N x = (i : ℕ) → i < N → (x .assigned i ≡ 0) × (x .first i ≡ 0) × (x .last i ≡ 0)
+
 -- 32: "Z's diagonal is 0; into j the sum of Z is E − F of j; out of i it is E − L of i". Equations (6) and (7), whose sums pass
 -- over the diagonal. F and L are added on the other side, since a difference of naturals is cut off at 0
 unfoldable pub rule32 : ℕ → WeekTables → Bool

@@ -1,5 +1,5 @@
 //! Random plants of every size, each with slots and sales that mostly run
-//! without a stop. In a third of them weeks are shut.
+//! without a stop. In three of ten weeks are shut.
 
 use std::ops::RangeInclusive;
 

@@ -1,7 +1,8 @@
 /* Doxkarin: the judge of weekly production plans. Link with libdoxkarin.a (rt staticlib doxkarin).
  *
  * Each call returns 0, or the number of the refusal; on a refusal nothing behind a pointer is changed. A file is a pointer to its bytes and
- * their count. No pointer may be null, one with a count of 0 neither; profit and length are aligned as their types are. The output, profit and
+ * their count: a plant file of kind 1, or of kind 4, which says what is mounted before the first week; a plan file of kind 2; a slot file of
+ * kind 3. No pointer may be null, one with a count of 0 neither; profit and length are aligned as their types are. The output, profit and
  * length may not overlap a file or each other. */
 #ifndef DOXKARIN_H
 #define DOXKARIN_H

@@ -5,12 +5,18 @@ use std::fmt;
 use std::ops::RangeInclusive;
 
 use crate::limits;
-use crate::model::{Plant, Sizes, Slot, Slots, Storage};
+use crate::model::{Plant, Sizes, Slot, Slots, Storage, WeekBefore};
 
 const PLANT_KIND: u8 = 1;
 const SLOTS_KIND: u8 = 3;
+/// A plant with its week before, section 12 (request 2026-02).
+const WEEK_BEFORE_KIND: u8 = 4;
 const PLANT_SECTIONS: RangeInclusive<u8> = 1..=11;
+const WEEK_BEFORE_SECTIONS: RangeInclusive<u8> = 1..=12;
 const SLOTS_SECTIONS: RangeInclusive<u8> = 41..=43;
+
+/// Stands in section 12 in place of a product.
+const NOTHING_MOUNTED: u8 = 255;
 
 /// Bytes of one contents entry: section number, offset and length.
 const ENTRY_LENGTH: usize = 9;
@@ -61,7 +67,7 @@ pub fn encode_plant(plant: &Plant) -> Vec<u8> {
     let sizes = [plant.sizes.products, plant.sizes.customers, plant.sizes.weeks];
     let storage = plant.storage.iter().flat_map(|limits| [limits.least, limits.greatest]);
     let openings = plant.opening_inventory.iter().chain(&plant.opening_backlog).copied();
-    let bodies = [
+    let mut bodies = vec![
         sizes.map(|size| u8::try_from(size).expect("a size of one byte")).to_vec(),
         by_four(plant.rates.iter().copied()),
         by_two(plant.changeover_minutes.iter().copied()),
@@ -74,7 +80,20 @@ pub fn encode_plant(plant: &Plant) -> Vec<u8> {
         by_four(openings),
         by_two([plant.shortest_run, plant.week_minutes]),
     ];
-    encode(PLANT_KIND, PLANT_SECTIONS, &bodies)
+    bodies.extend(plant.week_before.map(|WeekBefore { mounted, shut }| {
+        vec![mounted.unwrap_or(NOTHING_MOUNTED), u8::from(shut)]
+    }));
+    let (kind, numbers) = plant_form(plant.week_before.is_some());
+    encode(kind, numbers, &bodies)
+}
+
+/// The kind and the sections of a plant file with its week before, or without.
+fn plant_form(with_week_before: bool) -> (u8, RangeInclusive<u8>) {
+    if with_week_before {
+        (WEEK_BEFORE_KIND, WEEK_BEFORE_SECTIONS)
+    } else {
+        (PLANT_KIND, PLANT_SECTIONS)
+    }
 }
 
 pub fn encode_slots(slots: &Slots) -> Vec<u8> {
@@ -103,7 +122,8 @@ fn encode(kind: u8, numbers: RangeInclusive<u8>, bodies: &[Vec<u8>]) -> Vec<u8> 
 
 /// Reads a plant file, or refuses it with 1 to 5.
 pub fn decode_plant(file: &[u8]) -> Result<Plant, Refusal> {
-    let bodies = decode(file, PLANT_KIND, PLANT_SECTIONS, Refusal(1), Refusal(2))?;
+    let (kind, numbers) = plant_form(file.first() == Some(&WEEK_BEFORE_KIND));
+    let bodies = decode(file, kind, numbers, Refusal(1), Refusal(2))?;
     let &[products, customers, weeks] = bodies[0] else {
         return Err(Refusal(2));
     };
@@ -128,8 +148,10 @@ pub fn decode_plant(file: &[u8]) -> Result<Plant, Refusal> {
         8 * sizes.products,
         4 * sizes.products + 4 * by_customer,
         4,
+        2,
     ];
-    refuse_unless(have_lengths(&bodies, &lengths), Refusal(4))?;
+    // Kind 1 has no section 12.
+    refuse_unless(have_lengths(&bodies, &lengths[..bodies.len()]), Refusal(4))?;
 
     let (inventory, backlog) = bodies[9].split_at(4 * sizes.products);
     let times = twos(bodies[10]);
@@ -150,9 +172,16 @@ pub fn decode_plant(file: &[u8]) -> Result<Plant, Refusal> {
         opening_backlog: fours(backlog),
         shortest_run: times[0],
         week_minutes: times[1],
+        week_before: bodies.get(11).map(|body| decode_week_before(body)).transpose()?,
     };
     refuse_unless(in_range(&plant), Refusal(5))?;
     Ok(plant)
+}
+
+fn decode_week_before(body: &[u8]) -> Result<WeekBefore, Refusal> {
+    let (mounted, shut) = (body[0], body[1]);
+    refuse_unless(shut <= 1, Refusal(5))?;
+    Ok(WeekBefore { mounted: (mounted != NOTHING_MOUNTED).then_some(mounted), shut: shut == 1 })
 }
 
 /// Reads a slot file of a plant of these sizes, or refuses it with 21 to 24.
@@ -234,6 +263,10 @@ fn in_range(plant: &Plant) -> bool {
         && all_within(&plant.opening_backlog, limits::OPENING_BACKLOG)
         && all_within(&[plant.shortest_run, plant.week_minutes], limits::WEEK_MINUTES)
         && plant.shortest_run <= plant.week_minutes
+        && plant
+            .week_before
+            .and_then(|before| before.mounted)
+            .is_none_or(|product| usize::from(product) < products)
 }
 
 fn all_within<Number: Copy + Into<u64>>(numbers: &[Number], limits: RangeInclusive<u64>) -> bool {

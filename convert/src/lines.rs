@@ -1,5 +1,6 @@
 //! The lines of a text as words, and faults with their line numbers.
 
+use std::borrow::Borrow;
 use std::collections::BTreeMap;
 
 /// What is wrong on a line, and what is expected.
@@ -118,11 +119,11 @@ pub fn form_of(word: &str, forms: &[&'static str]) -> Result<&'static str, Strin
     })
 }
 
-/// Where a name stands among the names of its kind, "product" or "customer".
-pub fn find_name(kind: &str, name: &str, names: &[String]) -> Result<usize, String> {
+/// Where a name stands among the names of its kind, such as "product".
+pub fn find_name(kind: &str, name: &str, names: &[impl Borrow<str>]) -> Result<usize, String> {
     names
         .iter()
-        .position(|known| known == name)
+        .position(|known| known.borrow() == name)
         .ok_or_else(|| format!("unknown {kind} \"{name}\"; expected one of {}", names.join(", ")))
 }
 

@@ -33,6 +33,14 @@ pub struct Storage {
     pub greatest: u32,
 }
 
+/// How the week before the first one left the line (request 2026-02).
+#[derive(Clone, Copy, Debug, PartialEq, Eq)]
+pub struct WeekBefore {
+    /// The product, if any is mounted.
+    pub mounted: Option<u8>,
+    pub shut: bool,
+}
+
 #[derive(Clone, Debug, PartialEq, Eq)]
 pub struct Plant {
     pub sizes: Sizes,
@@ -58,6 +66,8 @@ pub struct Plant {
     pub opening_backlog: Vec<u32>,
     pub shortest_run: u16,
     pub week_minutes: u16,
+    /// A plant file has it in kind 4 and not in kind 1.
+    pub week_before: Option<WeekBefore>,
 }
 
 impl Plant {

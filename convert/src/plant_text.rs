@@ -5,16 +5,18 @@ use std::fmt::Write;
 
 use crate::limits;
 use crate::lines::{self, Facts, Fault, Line, Words};
-use crate::model::{Names, Plant, Sizes, Storage};
+use crate::model::{Names, Plant, Sizes, Storage, WeekBefore};
 use crate::quantities::{read_count, Quantity, Unit};
 
 /// How each line is written.
-const FORMS: [&str; 14] = [
+const FORMS: [&str; 16] = [
     "weeks NUMBER",
     "week-minutes NUMBER minutes",
     "shortest-run NUMBER minutes",
     "product NAME",
     "customer NAME",
+    "mounted PRODUCT",
+    "week-before shut or producing",
     "rate PRODUCT NUMBER grams per minute",
     "changeover PRODUCT PRODUCT NUMBER minutes NUMBER cents",
     "inventory-cost PRODUCT NUMBER cents per kilogram",
@@ -25,6 +27,9 @@ const FORMS: [&str; 14] = [
     "opening-backlog CUSTOMER PRODUCT NUMBER grams",
     "demand CUSTOMER PRODUCT week NUMBER NUMBER grams",
 ];
+
+/// The words of `week-before`, by its byte in the file.
+const WEEK_BEFORE: [&str; 2] = ["producing", "shut"];
 
 const WEEK_MINUTES: Quantity =
     Quantity { name: "a week", unit: Unit::Minutes, limits: limits::WEEK_MINUTES };
@@ -171,6 +176,8 @@ struct Reader<'names> {
     sizes: Sizes,
     week_minutes: Facts<u64>,
     shortest_run: Facts<u64>,
+    mounted: Facts<usize>,
+    week_before_shut: Facts<bool>,
     rates: Facts<u64>,
     /// Minutes and cents.
     changeovers: Facts<(u64, u64)>,
@@ -191,6 +198,8 @@ impl<'names> Reader<'names> {
             sizes,
             week_minutes: Facts::default(),
             shortest_run: Facts::default(),
+            mounted: Facts::default(),
+            week_before_shut: Facts::default(),
             rates: Facts::default(),
             changeovers: Facts::default(),
             inventory_costs: Facts::default(),
@@ -218,6 +227,17 @@ impl<'names> Reader<'names> {
             "shortest-run" => {
                 let value = SHORTEST_RUN.read(words);
                 self.shortest_run.give(0, number, value, || "shortest-run".to_string())
+            }
+            "mounted" => {
+                let product = self.read_product(words).map(|(product, _)| product);
+                let product = product.and_then(|product| words.end().map(|()| product));
+                self.mounted.give(0, number, product, || "mounted".to_string())
+            }
+            "week-before" => {
+                let word = words.word();
+                let place = word.and_then(|word| lines::find_name("word", word, &WEEK_BEFORE));
+                let shut = place.and_then(|place| words.end().map(|()| place == 1));
+                self.week_before_shut.give(0, number, shut, || "week-before".to_string())
             }
             "rate" => self.read_product_fact(line, words, &RATE, |reader| &mut reader.rates),
             "inventory-cost" => self.read_product_fact(line, words, &INVENTORY_COST, |reader| {
@@ -360,6 +380,17 @@ impl<'names> Reader<'names> {
             opening_backlog: values(&self.opening_backlog, pairs.len()),
             shortest_run: two_bytes(self.shortest_run.value(0)?),
             week_minutes: two_bytes(self.week_minutes.value(0)?),
+            week_before: self.week_before(),
+        })
+    }
+
+    /// Nothing if no line is about it.
+    fn week_before(&self) -> Option<WeekBefore> {
+        let (mounted, shut) = (self.mounted.value(0), self.week_before_shut.value(0));
+        let given = mounted.is_some() || shut.is_some();
+        given.then(|| WeekBefore {
+            mounted: mounted.map(|product| u8::try_from(product).expect("at most 16 products")),
+            shut: shut.unwrap_or_default(),
         })
     }
 
@@ -491,6 +522,13 @@ fn write_lines(text: &mut String, plant: &Plant, names: &Names) -> std::fmt::Res
     writeln!(text)?;
     for name in &names.customers {
         writeln!(text, "customer {name}")?;
+    }
+    if let Some(WeekBefore { mounted, shut }) = plant.week_before {
+        writeln!(text)?;
+        if let Some(product) = mounted {
+            writeln!(text, "mounted {}", names.products[usize::from(product)])?;
+        }
+        writeln!(text, "week-before {}", WEEK_BEFORE[usize::from(shut)])?;
     }
     for product in 0..plant.sizes.products {
         write_product(text, plant, names, product)?;

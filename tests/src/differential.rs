@@ -9,7 +9,7 @@ use crate::layout::Parts;
 use crate::model::{Kind, Plan, Plant, Refusal, Sizes, Slots};
 use crate::mutants;
 use crate::random::Random;
-use crate::scenario::{self, Scenario, SHUT_WEEKS};
+use crate::scenario::{self, Scenario, SORTS};
 use crate::{following, library, machine, reference};
 
 /// The three calls.
@@ -41,8 +41,8 @@ pub struct Counts {
     by_number: BTreeMap<(Refusal, Call), u64>,
     /// Sizes with which a plan passed.
     passed: Vec<Sizes>,
-    /// How often a plan with such shut weeks passed.
-    passed_shut: [u64; SHUT_WEEKS.len()],
+    /// How often a plan of each sort passed.
+    passed_sorts: [u64; SORTS.len()],
 }
 
 impl Counts {
@@ -60,9 +60,9 @@ impl Counts {
         self.passed.iter().any(|&sizes| wanted(sizes))
     }
 
-    /// How often a plan passed with weeks shut in each way.
-    pub fn passed_shut(&self) -> impl Iterator<Item = (&'static str, u64)> + '_ {
-        SHUT_WEEKS.iter().zip(self.passed_shut).map(|(&(name, _), count)| (name, count))
+    /// How often a plan of each sort passed.
+    pub fn passed_sorts(&self) -> impl Iterator<Item = (&'static str, u64)> + '_ {
+        SORTS.iter().zip(self.passed_sorts).map(|(&(name, _), count)| (name, count))
     }
 
     fn add(&mut self, call: Call, number: Refusal) {
@@ -70,12 +70,12 @@ impl Counts {
         *self.by_number.entry((number, call)).or_default() += 1;
     }
 
-    fn add_passed(&mut self, sizes: Sizes, slots: &Slots) {
-        if !self.passed.contains(&sizes) {
-            self.passed.push(sizes);
+    fn add_passed(&mut self, plant: &Plant, slots: &Slots) {
+        if !self.passed.contains(&plant.sizes) {
+            self.passed.push(plant.sizes);
         }
-        for ((_, are_shut), count) in SHUT_WEEKS.iter().zip(&mut self.passed_shut) {
-            *count += u64::from(are_shut(slots));
+        for ((_, is_sort), count) in SORTS.iter().zip(&mut self.passed_sorts) {
+            *count += u64::from(is_sort(plant, slots));
         }
     }
 }
@@ -162,7 +162,7 @@ pub fn run_scenario(seed: u64, counts: &mut Counts) -> Result<(), Box<Difference
     let plan = following::plan(&plant, &slots);
     if let Ok(run) = machine::run(&plant, &slots) {
         assert_eq!(run, plan, "the tables that follow are those of the run");
-        counts.add_passed(sizes, &slots);
+        counts.add_passed(&plant, &slots);
     }
     let mut comparison = Comparison { seed, random, counts };
     comparison.compare_plan(&plant.encode(), &plan.encode())?;
@@ -255,7 +255,8 @@ impl Comparison<'_> {
                 self.random.pick(&mutants::PLANT_CHANGES)(&mut self.random, &mut plant);
                 plant.encode()
             }
-            1 => self.damage(&mut Parts::new(Kind::Plant, 1, &plant.bodies())),
+            1 => self.damage(&mut Parts::new(plant.kind(), 1, &plant.bodies())),
+            2 => mutants::damage_line(&mut self.random, plant),
             _ => plant.encode(),
         }
     }

@@ -61,6 +61,16 @@ passed 8650000
 2 0 30 3030 5030
 ";
 
+/// What `planreport` prints of the small plant with B mounted, which is none of
+/// the facts.
+pub const MOUNTED_TEXT: &str = "\
+passed 8150000
+1 0 30 30 5030
+1 1 40 5070 7070
+2 1 0 0 3000
+2 0 30 3030 5030
+";
+
 pub fn all() -> Vec<Fact> {
     vec![
         fact(1, Ok(8_650_000), SMALL_TEXT, |_, _| ()),

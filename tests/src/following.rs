@@ -3,14 +3,14 @@
 //! fit its section is the greatest that does. Where the machine does not stop,
 //! these are its tables.
 
-use crate::model::{Plan, Plant, Sizes, Slots};
+use crate::model::{Plan, Plant, Slots};
 use crate::rules;
 
 /// E, F, L, Z, ZF, O, T, P, V, Δ and the profit of these slots and sales.
 pub fn plan(plant: &Plant, slots: &Slots) -> Plan {
     let mut plan = Plan::zeros(plant.sizes);
     plan.sales.clone_from(&slots.sales);
-    fill_runs(plant.sizes, &mut plan, slots);
+    fill_runs(plant, &mut plan, slots);
     settle(plant, &mut plan);
     plan
 }
@@ -24,9 +24,10 @@ pub fn settle(plant: &Plant, plan: &mut Plan) {
 }
 
 /// E, F, L, Z, ZF, O and T.
-fn fill_runs(sizes: Sizes, plan: &mut Plan, slots: &Slots) {
+fn fill_runs(plant: &Plant, plan: &mut Plan, slots: &Slots) {
+    let sizes = plant.sizes;
     let mut row_start = 0;
-    let mut last_before: Option<usize> = None;
+    let mut last_before = plant.mounted();
     for (week, &count) in slots.counts.iter().enumerate() {
         let row = &slots.slots[row_start..row_start + usize::from(count)];
         row_start += row.len();

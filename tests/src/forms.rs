@@ -3,11 +3,15 @@
 
 use std::ops::RangeInclusive;
 
-use crate::model::{Kind, Plan, Plant, Refusal, Sizes, Slot, Slots, Storage};
+use crate::model::{Kind, OpeningLine, Plan, Plant, Refusal, Sizes, Slot, Slots, Storage};
 
 /// Reads a plant: rows 1 to 5.
 pub fn read_plant(file: &[u8]) -> Result<Plant, Refusal> {
-    let bodies = read_bodies(file, Kind::Plant, 1..=11, 1, 2)?;
+    let (kind, sections) = match file.first() {
+        Some(4) => (Kind::MountedPlant, 1..=12),
+        _ => (Kind::Plant, 1..=11),
+    };
+    let bodies = read_bodies(file, kind, sections, 1, 2)?;
     let &[products, customers, weeks] = bodies[0] else {
         return Err(2);
     };
@@ -31,8 +35,9 @@ pub fn read_plant(file: &[u8]) -> Result<Plant, Refusal> {
         8 * sizes.products,
         4 * sizes.products + 4 * by_customer,
         4,
+        2,
     ];
-    refuse_unless(have_lengths(&bodies, &lengths), 4)?;
+    refuse_unless(have_lengths(&bodies, &lengths[..bodies.len()]), 4)?;
 
     let (inventory, backlog) = bodies[9].split_at(4 * sizes.products);
     let times = twos(bodies[10]);
@@ -53,6 +58,9 @@ pub fn read_plant(file: &[u8]) -> Result<Plant, Refusal> {
         opening_backlog: fours(backlog),
         shortest_run: times[0],
         week_minutes: times[1],
+        opening_line: bodies
+            .get(11)
+            .map(|line| OpeningLine { mounted: line[0], was_shut: line[1] }),
     };
     refuse_unless(in_range(&plant), 5)?;
     Ok(plant)
@@ -169,6 +177,8 @@ fn in_range(plant: &Plant) -> bool {
         && 1 <= plant.shortest_run
         && plant.shortest_run <= plant.week_minutes
         && plant.week_minutes <= 10_080
+        && plant.mounted().is_none_or(|mounted| mounted < products)
+        && plant.opening_line.is_none_or(|line| line.was_shut <= 1)
 }
 
 fn at_most(numbers: &[u32], greatest: u32) -> bool {

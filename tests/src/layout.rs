@@ -63,15 +63,15 @@ impl Parts {
 
 impl Plant {
     pub fn encode(&self) -> Vec<u8> {
-        Parts::new(Kind::Plant, 1, &self.bodies()).bytes()
+        Parts::new(self.kind(), 1, &self.bodies()).bytes()
     }
 
-    /// The bodies of sections 1 to 11.
+    /// The bodies of sections 1 to 11, and in kind 4 of section 12.
     pub fn bodies(&self) -> Vec<Vec<u8>> {
         let sizes = [self.sizes.products, self.sizes.customers, self.sizes.weeks];
         let storage = self.storage.iter().flat_map(|limits| [limits.least, limits.greatest]);
         let openings = self.opening_inventory.iter().chain(&self.opening_backlog).copied();
-        vec![
+        let mut bodies = vec![
             sizes.map(|size| u8::try_from(size).expect("a size of one byte")).to_vec(),
             by_four(self.rates.iter().copied()),
             by_two(self.changeover_minutes.iter().copied()),
@@ -83,7 +83,9 @@ impl Plant {
             by_four(storage),
             by_four(openings),
             by_two([self.shortest_run, self.week_minutes]),
-        ]
+        ];
+        bodies.extend(self.opening_line.map(|line| vec![line.mounted, line.was_shut]));
+        bodies
     }
 }
 

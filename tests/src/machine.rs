@@ -23,7 +23,7 @@ impl<'plant> Machine<'plant> {
     pub fn new(plant: &'plant Plant) -> Self {
         Machine {
             plant,
-            mounted: None,
+            mounted: plant.mounted(),
             clock: 0,
             ran: vec![false; plant.sizes.products],
             inventory: plant.opening_inventory.iter().copied().map(u64::from).collect(),

@@ -6,12 +6,14 @@ use std::ops::Range;
 /// A number of the refusal table: the row that turns a file or run down.
 pub type Refusal = u32;
 
-/// The three kinds of file, each with its kind byte.
+/// The kinds of file, each with its kind byte.
 #[derive(Clone, Copy, Debug, PartialEq, Eq)]
 pub enum Kind {
     Plant = 1,
     Plan = 2,
     Slots = 3,
+    /// A plant with section 12.
+    MountedPlant = 4,
 }
 
 impl Kind {
@@ -23,7 +25,7 @@ impl Kind {
 impl fmt::Display for Kind {
     fn fmt(&self, formatter: &mut fmt::Formatter<'_>) -> fmt::Result {
         formatter.write_str(match self {
-            Kind::Plant => "plant",
+            Kind::Plant | Kind::MountedPlant => "plant",
             Kind::Plan => "plan",
             Kind::Slots => "slots",
         })
@@ -83,6 +85,15 @@ pub struct Storage {
     pub greatest: u32,
 }
 
+/// The line before week 0.
+#[derive(Clone, Copy, Debug, PartialEq, Eq)]
+pub struct OpeningLine {
+    /// The product that is mounted, or 255 for none.
+    pub mounted: u8,
+    /// 1 if the week before was shut, else 0.
+    pub was_shut: u8,
+}
+
 #[derive(Clone, Debug, PartialEq, Eq)]
 pub struct Plant {
     pub sizes: Sizes,
@@ -108,6 +119,22 @@ pub struct Plant {
     pub opening_backlog: Vec<u32>,
     pub shortest_run: u16,
     pub week_minutes: u16,
+    /// Section 12, which kind 4 has and kind 1 has not.
+    pub opening_line: Option<OpeningLine>,
+}
+
+impl Plant {
+    pub fn kind(&self) -> Kind {
+        match self.opening_line {
+            None => Kind::Plant,
+            Some(_) => Kind::MountedPlant,
+        }
+    }
+
+    /// The product that is mounted before week 0: none in kind 1.
+    pub fn mounted(&self) -> Option<usize> {
+        self.opening_line.filter(|line| line.mounted != 255).map(|line| line.mounted.into())
+    }
 }
 
 #[derive(Clone, Debug, PartialEq, Eq)]
@@ -120,8 +147,9 @@ pub struct Plan {
     pub last: Vec<u8>,
     /// Z: 1 for neighbours within the week, by week, product from and product to.
     pub changeovers: Vec<u8>,
-    /// ZF: 1 from the last product of the producing week before to the first of
-    /// this one, by week, product from and product to.
+    /// ZF: 1 from the last product of the producing week before, or from what is
+    /// mounted before week 0, to the first of this one, by week, product from and
+    /// product to.
     pub opening_changeovers: Vec<u8>,
     /// O: the place in the week from 1, or 0, by week and product.
     pub places: Vec<u8>,

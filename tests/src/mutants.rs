@@ -4,6 +4,7 @@
 
 mod amounts;
 mod files;
+mod mounted;
 mod orders;
 mod plans;
 mod plants;
@@ -15,6 +16,7 @@ use crate::model::{Plan, Plant, Slots};
 use crate::random::Random;
 
 pub use files::DAMAGES;
+pub use mounted::damage_line;
 pub use plans::PLAN_CHANGES;
 pub use plants::{GROUND_CHANGES, PLANT_CHANGES};
 pub use slots::{break_slots_form, SLOTS_CHANGES};

@@ -31,8 +31,8 @@ fn schedule(plant: &[u8], plan: &[u8]) -> String {
 /// minutes, start and end of the run. A shut week has no line.
 fn slot_lines(plant: &Plant, plan: &Plan) -> Vec<String> {
     let mut lines = Vec::new();
-    // The line keeps the product mounted from week to week.
-    let mut mounted = None;
+    // The line keeps the product mounted from week to week, into the first week too.
+    let mut mounted = plant.mounted();
     for (week, row) in (1..).zip(shown(plant.sizes, plan).rows()) {
         let mut clock = 0u64;
         for slot in row {

@@ -58,21 +58,22 @@ pub fn changeovers_join_runs(plant: &Plant, plan: &Plan) -> bool {
 
 /// Row 33: a producing week opens with one changeover from the last product of
 /// the producing week before, however many shut weeks lie between, to its own
-/// first. None opens a shut week or the first producing week.
+/// first; the first producing week with one from what is mounted before week 0.
+/// None opens a shut week, or the first producing week where nothing is mounted.
 pub fn opening_changeovers_join_weeks(plant: &Plant, plan: &Plan) -> bool {
     let sizes = plant.sizes;
     let marks = &plan.opening_changeovers;
     let is_producing = |week: &usize| !plan.is_shut(sizes, *week);
     (0..sizes.weeks).all(|week| {
-        let before = (0..week).rev().find(is_producing).filter(|_| is_producing(&week));
+        let before = (0..week).rev().find(is_producing);
+        let is_opened = is_producing(&week) && (before.is_some() || plant.mounted().is_some());
         (0..sizes.products).all(|product| {
-            let (into, out_of) = match before {
-                None => (0, 0),
-                Some(before) => (
-                    plan.first[sizes.week_product(week, product)],
-                    plan.last[sizes.week_product(before, product)],
-                ),
+            let first = plan.first[sizes.week_product(week, product)];
+            let mounted = match before {
+                None => u8::from(plant.mounted() == Some(product)),
+                Some(before) => plan.last[sizes.week_product(before, product)],
             };
+            let (into, out_of) = if is_opened { (first, mounted) } else { (0, 0) };
             sum_into(sizes, marks, week, product) == i64::from(into)
                 && sum_out_of(sizes, marks, week, product) == i64::from(out_of)
         })

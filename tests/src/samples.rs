@@ -5,7 +5,7 @@
 use std::fmt::Write;
 
 use crate::layout::Parts;
-use crate::model::{Kind, Plant, Refusal, Sizes, Slot, Storage};
+use crate::model::{Kind, OpeningLine, Plant, Refusal, Sizes, Slot, Storage};
 use crate::small;
 
 #[derive(Clone, Debug, PartialEq, Eq)]
@@ -48,11 +48,19 @@ pub fn plants() -> Vec<Sample> {
     let sized = |change: fn(&mut Sizes)| least_plant(changed(&right.sizes, change)).encode();
     let mut long_sizes = right.bodies();
     long_sizes[0].push(0);
+    let mounted = small::mounted_plant();
+    let mut long_line = mounted.bodies();
+    long_line[11].push(0);
+    let with_line = |mounted, was_shut| {
+        Plant { opening_line: Some(OpeningLine { mounted, was_shut }), ..small::plant() }.encode()
+    };
 
     let mut samples = vec![whole(Kind::Plant, file.clone())];
     let mut add = |number, what, bytes| samples.push(sample(Kind::Plant, number, what, bytes));
 
     add(0, "greatest", greatest_plant().encode());
+    add(0, "mounted", mounted.encode());
+    add(0, "nothing-mounted", with_line(255, 1));
 
     add(1, "empty", Vec::new());
     add(1, "short", file[..contents_end - 1].to_vec());
@@ -60,6 +68,11 @@ pub fn plants() -> Vec<Sample> {
     add(1, "section-count", changed(&parts, |parts| parts.count += 1).bytes());
     // Sections 6 and 7 are of one length, so that only their order is wrong.
     add(1, "section-order", changed(&parts, |parts| swap_numbers(parts, 5, 6)).bytes());
+
+    // As long as the contents of kind 1, and a byte short of those of kind 4.
+    add(1, "mounted-short", mounted.encode()[..contents_end + 8].to_vec());
+    add(1, "line-of-kind-1", Parts::new(Kind::Plant, 1, &mounted.bodies()).bytes());
+    add(1, "no-line-of-kind-4", Parts::new(Kind::MountedPlant, 1, &right.bodies()).bytes());
 
     add(2, "contents-only", file[..contents_end].to_vec());
     add(2, "gap", changed(&parts, |parts| insert_gap(parts, 5)).bytes());
@@ -77,6 +90,7 @@ pub fn plants() -> Vec<Sample> {
 
     add(4, "length", damaged(|plant| plant.rates.truncate(1)));
     add(4, "length-and-rate", damaged(|plant| plant.rates = vec![0]));
+    add(4, "line-length", Parts::new(Kind::MountedPlant, 1, &long_line).bytes());
 
     add(5, "no-rate", damaged(|plant| plant.rates[1] = 0));
     add(5, "rate", damaged(|plant| plant.rates[1] = 100_001));
@@ -85,6 +99,9 @@ pub fn plants() -> Vec<Sample> {
     add(5, "no-shortest", damaged(|plant| plant.shortest_run = 0));
     add(5, "shortest", damaged(|plant| plant.week_minutes = plant.shortest_run - 1));
     add(5, "week", damaged(|plant| plant.week_minutes = 10_081));
+    add(5, "mounted", with_line(2, 0));
+    add(5, "mounted-254", with_line(254, 0));
+    add(5, "week-before", with_line(255, 2));
     samples
 }
 
@@ -179,6 +196,7 @@ pub fn least_plant(sizes: Sizes) -> Plant {
         opening_backlog: vec![0; by_customer],
         shortest_run: 1,
         week_minutes: 1,
+        opening_line: None,
     }
 }
 

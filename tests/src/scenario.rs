@@ -1,9 +1,10 @@
 //! Random plants of every size, each with slots and sales that mostly run
-//! without a stop. In three of ten weeks are shut.
+//! without a stop. In three of ten weeks are shut; half are of kind 4, mostly with
+//! a product mounted.
 
 use std::ops::RangeInclusive;
 
-use crate::model::{Plant, Sizes, Slot, Slots, Storage};
+use crate::model::{OpeningLine, Plant, Sizes, Slot, Slots, Storage};
 use crate::random::Random;
 use crate::samples;
 
@@ -42,38 +43,70 @@ impl Scenario {
     }
 }
 
-/// Whether weeks of a slot file are shut in some way.
-pub type ShutWeeks = fn(&Slots) -> bool;
+/// Whether a plant and its slots are of some sort.
+pub type Sort = fn(&Plant, &Slots) -> bool;
 
-/// The ways: which weeks are shut, what is made before and after, and sales.
-pub const SHUT_WEEKS: [(&str, ShutWeeks); 8] = [
-    ("the first week and not all", |slots| {
+/// The sorts of shut weeks: which they are, what is made before and after, and
+/// sales. Then those of the line before week 0: the plant's kind, what is mounted,
+/// and what runs first.
+pub const SORTS: [(&str, Sort); 16] = [
+    ("shut: the first week and not all", |_, slots| {
         slots.counts[0] == 0 && !producing_weeks(slots).is_empty()
     }),
-    ("the last week and not all", |slots| {
+    ("shut: the last week and not all", |_, slots| {
         slots.counts.last() == Some(&0) && !producing_weeks(slots).is_empty()
     }),
-    ("one between producing weeks", |slots| {
+    ("shut: one between producing weeks", |_, slots| {
         passages(slots).iter().any(|passage| passage.shut == 1)
     }),
-    ("several in a row between producing weeks", |slots| {
+    ("shut: several in a row between producing weeks", |_, slots| {
         passages(slots).iter().any(|passage| passage.shut > 1)
     }),
-    ("all of several weeks", |slots| slots.counts.len() > 1 && producing_weeks(slots).is_empty()),
-    ("between runs of one product", |slots| {
+    ("shut: all of several weeks", |_, slots| {
+        slots.counts.len() > 1 && producing_weeks(slots).is_empty()
+    }),
+    ("shut: between runs of one product", |_, slots| {
         passages(slots).iter().any(|passage| passage.shut > 0 && passage.from == passage.to)
     }),
-    ("between runs of two products", |slots| {
+    ("shut: between runs of two products", |_, slots| {
         passages(slots).iter().any(|passage| passage.shut > 0 && passage.from != passage.to)
     }),
-    ("with sales", |slots| {
+    ("shut: with sales", |_, slots| {
         let weeks = slots.counts.len();
         slots.sales.iter().enumerate().any(|(place, &sale)| {
             let week = place % weeks;
             slots.counts[week] == 0 && sale > 0
         })
     }),
+    ("kind 1", |plant, _| plant.opening_line.is_none()),
+    ("kind 4: nothing mounted", |plant, _| {
+        plant.opening_line.is_some() && plant.mounted().is_none()
+    }),
+    ("kind 4: the mounted product first", |plant, slots| {
+        plant.mounted().is_some() && plant.mounted() == first_product(slots)
+    }),
+    ("kind 4: another than the mounted product first", |plant, slots| {
+        let first = first_product(slots);
+        first.is_some() && plant.mounted().is_some_and(|mounted| first != Some(mounted))
+    }),
+    ("kind 4: shut weeks between what is mounted and the first product", |plant, slots| {
+        plant.mounted().is_some() && slots.counts[0] == 0 && !producing_weeks(slots).is_empty()
+    }),
+    ("kind 4: something mounted and all weeks shut", |plant, slots| {
+        plant.mounted().is_some() && producing_weeks(slots).is_empty()
+    }),
+    ("kind 4: after a week that was not shut", |plant, _| {
+        plant.opening_line.is_some_and(|line| line.was_shut == 0)
+    }),
+    ("kind 4: after a shut week", |plant, _| {
+        plant.opening_line.is_some_and(|line| line.was_shut == 1)
+    }),
 ];
+
+/// The first product of the first producing week, if there is one.
+fn first_product(slots: &Slots) -> Option<usize> {
+    slots.slots.first().map(|slot| slot.product.into())
+}
 
 /// From one producing week to the next.
 struct Passage {
@@ -205,8 +238,17 @@ fn plant(random: &mut Random, sizes: Sizes) -> Plant {
         opening_backlog: numbers(random, by_customer, 0..=100_000_000),
         shortest_run,
         week_minutes,
+        opening_line: opening_line(random, sizes),
         ..samples::least_plant(sizes)
     }
+}
+
+/// Section 12 in half of the plants, mostly with a product mounted.
+fn opening_line(random: &mut Random, sizes: Sizes) -> Option<OpeningLine> {
+    random.one_in(2).then(|| OpeningLine {
+        mounted: if random.one_in(5) { 255 } else { random.below(sizes.products) as u8 },
+        was_shut: random.below(2) as u8,
+    })
 }
 
 /// Which weeks are shut: none in most plants, else some at the beginning, at the
@@ -256,7 +298,7 @@ impl<'plant> Schedule<'plant> {
         let sizes = plant.sizes;
         Schedule {
             plant,
-            mounted: None,
+            mounted: plant.mounted(),
             inventory: plant.opening_inventory.iter().copied().map(u64::from).collect(),
             backlog: plant.opening_backlog.iter().copied().map(u64::from).collect(),
             least_inventory: vec![u64::MAX; sizes.products],

@@ -1,8 +1,8 @@
-//! The small plant: products A (0) and B (1), one customer, two weeks; and the
-//! same over four weeks, two of which are shut.
+//! The small plant: products A (0) and B (1), one customer, two weeks; the same
+//! with B mounted; and the same over four weeks, two of which are shut.
 
 use crate::machine;
-use crate::model::{Plan, Plant, Sizes, Slot, Slots, Storage};
+use crate::model::{OpeningLine, Plan, Plant, Sizes, Slot, Slots, Storage};
 
 pub fn plant() -> Plant {
     Plant {
@@ -19,6 +19,7 @@ pub fn plant() -> Plant {
         opening_backlog: vec![0, 0],
         shortest_run: 300,
         week_minutes: 10_080,
+        opening_line: None,
     }
 }
 
@@ -37,6 +38,16 @@ pub fn slots() -> Slots {
 
 pub fn plan() -> Plan {
     machine::run(&plant(), &slots()).expect("the small plant's run never stops")
+}
+
+/// The small plant with B mounted before week 0.
+pub fn mounted_plant() -> Plant {
+    Plant { opening_line: Some(OpeningLine { mounted: 1, was_shut: 0 }), ..plant() }
+}
+
+/// The plan of the same slots.
+pub fn mounted_plan() -> Plan {
+    machine::run(&mounted_plant(), &slots()).expect("the run with B mounted never stops")
 }
 
 /// The small plant over four weeks.

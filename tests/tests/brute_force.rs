@@ -6,11 +6,13 @@
 //! way among them. Then plan files are made whose numbers take all values of small
 //! sets, the values of the runs among them. Where all tables together are too many,
 //! either the marks and places vary over the numbers of each run, or the numbers
-//! over the marks of each run.
+//! over the marks of each run. Most plants are tried with nothing mounted, and
+//! then with each product.
 
 use std::collections::{BTreeMap, BTreeSet};
+use std::ops::Range;
 
-use doxkarin_tests::model::{Plant, Sizes, Slot, Slots, Storage};
+use doxkarin_tests::model::{OpeningLine, Plant, Sizes, Slot, Slots, Storage};
 use doxkarin_tests::{library, reference, samples};
 
 type File = Vec<u8>;
@@ -31,6 +33,26 @@ fn tiny_plant(products: usize, customers: usize, weeks: usize) -> Plant {
         }
     }
     plant
+}
+
+/// The plant with each product mounted before week 0. A changeover costs a cent.
+fn each_mounted(plant: &Plant) -> Vec<Plant> {
+    let sizes = plant.sizes;
+    let mut plant = plant.clone();
+    for from in 0..sizes.products {
+        for to in (0..sizes.products).filter(|&to| to != from) {
+            plant.changeover_cents[sizes.from_to(from, to)] = 1;
+        }
+    }
+    let line = |product| OpeningLine { mounted: product, was_shut: product % 2 };
+    (0..sizes.products as u8)
+        .map(|product| Plant { opening_line: Some(line(product)), ..plant.clone() })
+        .collect()
+}
+
+/// The plant with nothing mounted, as it is, and then with each product.
+fn bare_and_each_mounted(bare: &Plant) -> Vec<Plant> {
+    [vec![bare.clone()], each_mounted(bare)].concat()
 }
 
 /// Every list of up to `most` slots with these minutes, the empty one of a shut
@@ -271,42 +293,66 @@ fn assert_whole_grid(plant: &Plant, minutes: &[u16], sales: &[u32], least: u64, 
     passed.assert_all(least, passing);
 }
 
-/// All marks and places over the numbers of each run, and all numbers over the
-/// marks and places of each run.
-fn assert_two_grids(plant: &Plant, least: u64, passing: usize) {
-    let (minutes, sales) = ([0, 1, 2, 3], [0, 1, 2]);
-    let given = runs(plant, &minutes, &sales);
-    let (minutes, grams) = (numbers(minutes), numbers(sales));
+/// The sections of marks and places, and those of numbers, counted from 0.
+const STRUCTURE: Range<usize> = 0..6;
+const AMOUNTS: Range<usize> = 6..12;
+
+/// All values of these sections over the others of each run.
+fn assert_grid(plant: &Plant, sales: &[u32], sections: Range<usize>, least: u64, passing: usize) {
+    let minutes = [0, 1, 2, 3];
+    let given = runs(plant, &minutes, sales);
+    let (minutes, grams) = (numbers(minutes), numbers(sales.to_vec()));
     let (places, profits) = (numbers(0..=plant.sizes.products as i64 + 1), profits(&given));
     let values = values(&places, &minutes, &grams, &profits);
     let plant_file = plant.encode();
-    let (structure, amounts) = values.split_at(6);
-    for sections in [structure, amounts] {
-        let mut passed = Passed::new(&plant_file, &given);
-        passed.try_around(&cells(&given, sections));
-        passed.assert_all(least, passing);
+    let mut passed = Passed::new(&plant_file, &given);
+    passed.try_around(&cells(&given, &values[sections]));
+    passed.assert_all(least, passing);
+}
+
+/// All marks and places over the numbers of each run, and all numbers over the
+/// marks and places of each run.
+fn assert_two_grids(plant: &Plant, least: u64, passing: usize) {
+    for sections in [STRUCTURE, AMOUNTS] {
+        assert_grid(plant, &[0, 1, 2], sections, least, passing);
     }
 }
 
 #[test]
 fn one_product_one_customer_one_week() {
-    let plant = tiny_plant(1, 1, 1);
-    assert_whole_grid(&plant, &[0, 1, 2, 3, 4, 5], &[0, 1, 2, 3], 1_000_000, 6);
+    for plant in bare_and_each_mounted(&tiny_plant(1, 1, 1)) {
+        assert_whole_grid(&plant, &[0, 1, 2, 3, 4, 5], &[0, 1, 2, 3], 1_000_000, 6);
+    }
 }
 
 #[test]
 fn one_product_two_customers_one_week() {
-    assert_whole_grid(&tiny_plant(1, 2, 1), &[0, 1, 2, 3], &[0, 1, 2], 1_000_000, 11);
+    for plant in bare_and_each_mounted(&tiny_plant(1, 2, 1)) {
+        assert_whole_grid(&plant, &[0, 1, 2, 3], &[0, 1, 2], 1_000_000, 11);
+    }
 }
 
 #[test]
 fn one_product_two_weeks() {
-    assert_two_grids(&tiny_plant(1, 1, 2), 100_000, 36);
+    let bare = tiny_plant(1, 1, 2);
+    assert_two_grids(&bare, 100_000, 36);
+    for plant in each_mounted(&bare) {
+        assert_grid(&plant, &[0, 1, 2], STRUCTURE, 100_000, 36);
+    }
 }
 
 #[test]
 fn two_products_one_week() {
-    assert_two_grids(&tiny_plant(2, 1, 1), 1_000_000, 35);
+    let bare = tiny_plant(2, 1, 1);
+    assert_two_grids(&bare, 1_000_000, 35);
+    for plant in each_mounted(&bare) {
+        assert_grid(&plant, &[0, 1, 2], STRUCTURE, 1_000_000, 27);
+    }
+    // All numbers too, with less room for stock.
+    let storage = vec![Storage { least: 0, greatest: 1 }; 2];
+    for plant in each_mounted(&Plant { storage, ..bare }) {
+        assert_grid(&plant, &[0, 1], AMOUNTS, 100_000, 19);
+    }
 }
 
 /// Three products that all run for a minute: of all F, L, Z and O only the six
@@ -324,13 +370,37 @@ fn three_products_have_six_orders() {
     passed.assert_all(2_000_000, 6);
 }
 
+/// Three products that all run for a minute after one that is mounted: of all F, L
+/// and ZF only the six orders pass, each with the changeover into its first product.
+#[test]
+fn three_products_have_six_orders_with_each_mounted() {
+    let mut plant = tiny_plant(3, 1, 1);
+    plant.week_minutes = 6;
+    for plant in each_mounted(&plant) {
+        let given = runs(&plant, &[0, 1], &[1]);
+        let plant_file = plant.encode();
+        let mut passed = Passed::new(&plant_file, &given);
+        passed.try_around(&cells(&given, &[(1, MARKS), (2, MARKS), (4, MARKS)]));
+        passed.assert_all(100_000, 6);
+    }
+}
+
 /// Two products, two weeks: around each run every pair of numbers is changed.
 #[test]
 fn two_products_two_weeks() {
     let mut plant = tiny_plant(2, 1, 2);
     plant.opening_inventory = vec![1, 0];
+    assert_pairs(&plant, 713);
+    for mounted in each_mounted(&plant) {
+        // Without cents, so that there are not too many profits.
+        let changeover_cents = plant.changeover_cents.clone();
+        assert_pairs(&Plant { changeover_cents, ..mounted }, 593);
+    }
+}
+
+fn assert_pairs(plant: &Plant, passing: usize) {
     let (minutes, sales) = ([0, 1, 2], [0, 1]);
-    let given = runs(&plant, &minutes, &sales);
+    let given = runs(plant, &minutes, &sales);
     let (minutes, sales, grams) = (numbers(minutes), numbers(sales), numbers(0..=2));
     let (places, profits) = (numbers(0..=2), profits(&given));
     let mut values = values(&places, &minutes, &grams, &profits);
@@ -351,16 +421,21 @@ fn two_products_two_weeks() {
             }
         }
     }
-    passed.assert_all(1_000_000, 713);
+    passed.assert_all(1_000_000, passing);
 }
 
 /// One product, three weeks, each shut or with a run of a minute: all marks and
 /// places over the numbers of each run, and every pair of numbers around it.
 #[test]
 fn one_product_three_weeks() {
-    let plant = tiny_plant(1, 1, 3);
+    for plant in bare_and_each_mounted(&tiny_plant(1, 1, 3)) {
+        assert_marks_and_pairs(&plant, 34);
+    }
+}
+
+fn assert_marks_and_pairs(plant: &Plant, passing: usize) {
     let (minutes, sales) = ([0, 1], [0, 1]);
-    let given = runs(&plant, &minutes, &sales);
+    let given = runs(plant, &minutes, &sales);
     let (minutes, sales, grams) = (numbers(minutes), numbers(sales), numbers(0..=3));
     let (places, profits) = (numbers(0..=1), profits(&given));
     let mut values = values(&places, &minutes, &grams, &profits);
@@ -377,7 +452,7 @@ fn one_product_three_weeks() {
             }
         }
     }
-    passed.assert_all(1_000_000, 34);
+    passed.assert_all(1_000_000, passing);
 }
 
 /// A plant with minutes for every changeover and room for all that is made, so that
@@ -393,31 +468,33 @@ fn roomy_plant(weeks: usize) -> Plant {
 /// each week over each run.
 #[test]
 fn two_products_three_weeks() {
-    let plant = roomy_plant(3);
-    let given = runs(&plant, &[1], &[0]);
-    let plant_file = plant.encode();
-    let mut passed = Passed::new(&plant_file, &given);
-    for week in 0..3 {
-        let marks: Vec<Cell> = (0..5)
-            .flat_map(|section| {
-                let cells = cells(&given, &[(section, MARKS)]);
-                let count = cells.len() / 3;
-                cells[week * count..(week + 1) * count].to_vec()
-            })
-            .collect();
-        passed.try_around(&marks);
+    for plant in bare_and_each_mounted(&roomy_plant(3)) {
+        let given = runs(&plant, &[1], &[0]);
+        let plant_file = plant.encode();
+        let mut passed = Passed::new(&plant_file, &given);
+        for week in 0..3 {
+            let marks: Vec<Cell> = (0..5)
+                .flat_map(|section| {
+                    let cells = cells(&given, &[(section, MARKS)]);
+                    let count = cells.len() / 3;
+                    cells[week * count..(week + 1) * count].to_vec()
+                })
+                .collect();
+            passed.try_around(&marks);
+        }
+        passed.assert_all(1_000_000, 125);
     }
-    passed.assert_all(1_000_000, 125);
 }
 
 /// Two products, four weeks, each shut or with one run: all marks of ZF over each
 /// run, with up to two shut weeks between producing weeks.
 #[test]
 fn two_products_four_weeks() {
-    let plant = roomy_plant(4);
-    let given = runs_of_rows(&plant, &rows(2, 1, &[1]), &[0]);
-    let plant_file = plant.encode();
-    let mut passed = Passed::new(&plant_file, &given);
-    passed.try_around(&cells(&given, &[(4, MARKS)]));
-    passed.assert_all(1_000_000, 81);
+    for plant in bare_and_each_mounted(&roomy_plant(4)) {
+        let given = runs_of_rows(&plant, &rows(2, 1, &[1]), &[0]);
+        let plant_file = plant.encode();
+        let mut passed = Passed::new(&plant_file, &given);
+        passed.try_around(&cells(&given, &[(4, MARKS)]));
+        passed.assert_all(1_000_000, 81);
+    }
 }

@@ -38,6 +38,15 @@ fn a_c_program_makes_the_three_calls() {
         run(["plant.bin", "plan.bin", "slots.bin"]),
         "check 0 8650000\nslots 0 same\nplan 0 same\n"
     );
+    // Kind 4: the small plant with nothing mounted, and with B.
+    assert_eq!(
+        run(["plant-0-nothing-mounted.bin", "plan.bin", "slots.bin"]),
+        "check 0 8650000\nslots 0 same\nplan 0 same\n"
+    );
+    assert_eq!(
+        run(["plant-0-mounted.bin", "plan.bin", "slots.bin"]),
+        "check 33 0\nslots 33 different\nplan 0 different\n"
+    );
     assert_eq!(
         run(["plant-3-weeks.bin", "plan.bin", "slots.bin"]),
         "check 3 0\nslots 3 different\nplan 3 different\n"

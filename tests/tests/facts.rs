@@ -1,5 +1,5 @@
 //! P1 to P13: the files that `planreport` reads, and what README.md, the library
-//! and the second implementation say of each.
+//! and the second implementation say of each. Then the small plant with B mounted.
 
 use std::fs;
 use std::path::{Path, PathBuf};
@@ -127,4 +127,25 @@ fn passing_facts_are_runs() {
         }
     }
     assert_eq!(facts::all()[0].plan, small::plan());
+}
+
+/// With B mounted the same slots pay for the changeover from B to A, and neither
+/// plant passes with the other's plan.
+#[test]
+fn the_small_plant_passes_with_b_mounted() {
+    let (plant, plan) = (small::mounted_plant().encode(), small::mounted_plan().encode());
+    assert_eq!(library::check(&plant, &plan), Ok(8_150_000));
+    assert_eq!(reference::check(&plant, &plan), Ok(8_150_000));
+    assert_eq!(report::text(&plant, &plan), facts::MOUNTED_TEXT);
+
+    let slots = small::slots().encode();
+    let mut out = vec![0xa5; plan.len()];
+    assert_eq!(library::plan(&plant, &slots, &mut out), Ok(plan.len()));
+    assert!(out == plan);
+    let mut out = vec![0xa5; slots.len()];
+    assert_eq!(library::slots(&plant, &plan, &mut out), Ok(slots.len()));
+    assert!(out == slots);
+
+    assert_eq!(library::check(&small::plant().encode(), &plan), Err(33));
+    assert_eq!(library::check(&plant, &small::plan().encode()), Err(33));
 }

@@ -44,9 +44,11 @@ fn the_document_shows_the_small_plants_files() {
     let (plant, plan) = (small::plant().encode(), small::plan().encode());
     let slots = small::slots().encode();
     let by_four: &[usize] = &[4];
-    let mut widths = [by_four; 11];
-    (widths[0], widths[2], widths[10]) = (&[1], &[2], &[2]);
-    assert!(document.contains(&table(&plant, &widths)));
+    let mounted = small::mounted_plant().encode();
+    let mut widths = [by_four; 12];
+    (widths[0], widths[2], widths[10], widths[11]) = (&[1], &[2], &[2], &[1]);
+    assert!(document.contains(&table(&plant, &widths[..11])));
+    assert!(document.contains(&table(&mounted, &widths)));
     let mut widths = [by_four; 12];
     widths[..6].fill(&[1]);
     (widths[6], widths[11]) = (&[2], &[8]);
@@ -57,7 +59,9 @@ fn the_document_shows_the_small_plants_files() {
         let bytes: Vec<String> = line.iter().map(|byte| format!("{byte:02x}")).collect();
         assert!(document.contains(&format!("\n    {}\n", bytes.join(" "))));
     }
-    for (file, name) in [(&plant, "Plant"), (&slots, "Slots"), (&plan, "Plan")] {
+    let files =
+        [(&plant, "Plant"), (&mounted, "Plant with B mounted"), (&slots, "Slots"), (&plan, "Plan")];
+    for (file, name) in files {
         let start = format!("{name}, {} bytes, `{:02x} {:02x}` ", file.len(), file[0], file[1]);
         assert!(document.contains(&start), "{start}");
     }

@@ -2,7 +2,7 @@
 
 use doxkarin_tests::forms::{read_plan, read_plant, read_slots};
 use doxkarin_tests::layout::Parts;
-use doxkarin_tests::model::{Kind, Plant, Refusal, Sizes, Slot, Slots, Storage};
+use doxkarin_tests::model::{Kind, OpeningLine, Plant, Refusal, Sizes, Slot, Slots, Storage};
 use doxkarin_tests::{samples, small};
 
 /// One kind of file: its first section, its right bodies, and the refusal of a
@@ -15,12 +15,19 @@ struct Form {
     refusal: fn(&[u8]) -> Option<Refusal>,
 }
 
-fn forms() -> [Form; 3] {
+fn forms() -> [Form; 4] {
     [
         Form {
             kind: Kind::Plant,
             first: 1,
             bodies: small::plant().bodies(),
+            wrong_contents: 1,
+            refusal: |file| read_plant(file).err(),
+        },
+        Form {
+            kind: Kind::MountedPlant,
+            first: 1,
+            bodies: small::mounted_plant().bodies(),
             wrong_contents: 1,
             refusal: |file| read_plant(file).err(),
         },
@@ -45,6 +52,8 @@ fn forms() -> [Form; 3] {
 fn reading_undoes_encoding() {
     let plant = small::plant();
     assert_eq!(read_plant(&plant.encode()), Ok(plant.clone()));
+    let mounted = small::mounted_plant();
+    assert_eq!(read_plant(&mounted.encode()), Ok(mounted));
     let greatest = samples::greatest_plant();
     assert_eq!(read_plant(&greatest.encode()), Ok(greatest));
     let least = samples::least_plant(Sizes { products: 1, customers: 1, weeks: 1 });
@@ -98,8 +107,8 @@ fn every_body_has_its_length() {
     for form in forms() {
         for section in 0..form.bodies.len() {
             let expected = Some(match (form.kind, section) {
-                (Kind::Plant, 0) => 2,
-                (Kind::Plant, _) => 4,
+                (Kind::Plant | Kind::MountedPlant, 0) => 2,
+                (Kind::Plant | Kind::MountedPlant, _) => 4,
                 (Kind::Plan, _) => 13,
                 (Kind::Slots, _) => 23,
             });
@@ -119,10 +128,15 @@ fn every_body_has_its_length() {
 #[test]
 fn the_first_broken_row_refuses() {
     type Damage = fn(&mut [Vec<u8>]);
-    let damages: [&[(Refusal, Damage)]; 3] = [
+    let damages: [&[(Refusal, Damage)]; 4] = [
         &[
             (5, |bodies| bodies[1].fill(0)),
             (4, |bodies| bodies[2].push(0)),
+            (3, |bodies| bodies[0][0] = 0),
+        ],
+        &[
+            (5, |bodies| bodies[11][0] = 2),
+            (4, |bodies| bodies[11].push(0)),
             (3, |bodies| bodies[0][0] = 0),
         ],
         &[(14, |bodies| bodies[0][0] = 2), (13, |bodies| bodies[10].push(0))],
@@ -197,20 +211,82 @@ fn every_plant_number_has_its_range() {
         (1, |plant, value| plant.shortest_run = value as u16),
         (300, |plant, value| plant.week_minutes = value as u16),
     ];
-    let number = |change: Change, value| {
-        let mut plant = small::plant();
-        change(&mut plant, value);
-        read_plant(&plant.encode()).err()
-    };
-    for (place, (value, change)) in greatest.into_iter().enumerate() {
-        assert_eq!(number(change, value), None, "greatest {place}");
-        assert_eq!(number(change, value + 1), Some(5), "greatest {place}");
+    for right in [small::plant(), small::mounted_plant()] {
+        let number = |change: Change, value| {
+            let mut plant = right.clone();
+            change(&mut plant, value);
+            read_plant(&plant.encode()).err()
+        };
+        for (place, (value, change)) in greatest.into_iter().enumerate() {
+            assert_eq!(number(change, value), None, "greatest {place}");
+            assert_eq!(number(change, value + 1), Some(5), "greatest {place}");
+        }
+        for (place, (value, change)) in least.into_iter().enumerate() {
+            assert_eq!(number(change, value), None, "least {place}");
+            assert_eq!(number(change, value - 1), Some(5), "least {place}");
+        }
+        let limits = Storage { least: 1, greatest: 0 };
+        let plant = Plant { storage: vec![limits; 2], ..right };
+        assert_eq!(read_plant(&plant.encode()), Err(5));
     }
-    for (place, (value, change)) in least.into_iter().enumerate() {
-        assert_eq!(number(change, value), None, "least {place}");
-        assert_eq!(number(change, value - 1), Some(5), "least {place}");
+}
+
+/// Kind 4 has section 12 and kind 1 has not; there are no other plants.
+#[test]
+fn the_kind_tells_the_count_of_sections() {
+    for plant in [small::plant(), small::mounted_plant()] {
+        for kind in 0..=255 {
+            let mut file = plant.encode();
+            file[0] = kind;
+            let expected = (kind != plant.kind().byte()).then_some(1);
+            assert_eq!(read_plant(&file).err(), expected, "{kind}");
+        }
+        for count in 0..=255 {
+            let mut file = plant.encode();
+            file[1] = count;
+            let expected = (usize::from(count) != plant.bodies().len()).then_some(1);
+            assert_eq!(read_plant(&file).err(), expected, "{count}");
+        }
     }
-    let limits = Storage { least: 1, greatest: 0 };
-    let plant = Plant { storage: vec![limits; 2], ..small::plant() };
-    assert_eq!(read_plant(&plant.encode()), Err(5));
+    let (without, with) = (small::plant().bodies(), small::mounted_plant().bodies());
+    assert_eq!(read_plant(&Parts::new(Kind::Plant, 1, &with).bytes()), Err(1));
+    assert_eq!(read_plant(&Parts::new(Kind::MountedPlant, 1, &without).bytes()), Err(1));
+}
+
+#[test]
+fn section_12_has_two_numbers() {
+    for length in [0, 1, 2, 3, 4, 255] {
+        let mut bodies = small::mounted_plant().bodies();
+        bodies[11] = vec![0; length];
+        let file = Parts::new(Kind::MountedPlant, 1, &bodies).bytes();
+        assert_eq!(read_plant(&file).err(), (length != 2).then_some(4), "{length}");
+    }
+}
+
+#[test]
+fn section_12_has_a_product_or_none() {
+    for products in 1..=16 {
+        let least = samples::least_plant(Sizes { products, customers: 1, weeks: 1 });
+        for mounted in 0..=255 {
+            for was_shut in [0, 1, 2, 255] {
+                let opening_line = Some(OpeningLine { mounted, was_shut });
+                let plant = Plant { opening_line, ..least.clone() };
+                let is_known = usize::from(mounted) < products || mounted == 255;
+                let expected = if is_known && was_shut <= 1 { Ok(plant.clone()) } else { Err(5) };
+                assert_eq!(read_plant(&plant.encode()), expected, "{products} {mounted}");
+            }
+        }
+    }
+}
+
+/// Kind 1 reads as nothing mounted.
+#[test]
+fn what_is_mounted_is_read() {
+    let mounted = |line| Plant { opening_line: line, ..small::plant() }.mounted();
+    assert_eq!(mounted(None), None);
+    for was_shut in [0, 1] {
+        assert_eq!(mounted(Some(OpeningLine { mounted: 255, was_shut })), None);
+        assert_eq!(mounted(Some(OpeningLine { mounted: 0, was_shut })), Some(0));
+        assert_eq!(mounted(Some(OpeningLine { mounted: 1, was_shut })), Some(1));
+    }
 }

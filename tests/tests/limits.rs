@@ -1,8 +1,8 @@
-//! The least and the greatest plant, the most slots and none, sales of more than
-//! 2^32 grams in a week, files and outputs of more than 2^32 bytes, and files of
-//! another kind.
+//! The least and the greatest plant of both kinds, the most slots and none, sales of
+//! more than 2^32 grams in a week, files and outputs of more than 2^32 bytes, and
+//! files of another kind.
 
-use doxkarin_tests::model::{Plant, Sizes, Slot, Slots, Storage};
+use doxkarin_tests::model::{OpeningLine, Plant, Refusal, Sizes, Slot, Slots, Storage};
 use doxkarin_tests::scenario::greatest_sizes;
 use doxkarin_tests::{following, library, reference, samples, small};
 
@@ -22,14 +22,34 @@ fn assert_runs(plant: &Plant, slots: &Slots, profit: i64) {
     assert!(reference::slot_file(&plant_file, &plan_file) == Ok(slot_file));
 }
 
+/// Asserts that all calls refuse these slots and the plan that follows from them.
+fn assert_refused(plant: &Plant, slots: &Slots, number: Refusal) {
+    let plan = following::plan(plant, slots).encode();
+    let (plant, slots) = (plant.encode(), slots.encode());
+    let mut out = vec![0; plan.len()];
+    assert_eq!(library::check(&plant, &plan), Err(number));
+    assert_eq!(reference::check(&plant, &plan), Err(number));
+    assert_eq!(library::slots(&plant, &plan, &mut out), Err(number));
+    assert_eq!(reference::slots(&plant, &plan, &mut out), Err(number));
+    assert_eq!(library::plan(&plant, &slots, &mut out), Err(number));
+    assert_eq!(reference::plan(&plant, &slots, &mut out), Err(number));
+}
+
+/// The plant of kind 4 with this product mounted.
+fn mounted(plant: &Plant, mounted: u8) -> Plant {
+    Plant { opening_line: Some(OpeningLine { mounted, was_shut: 1 }), ..plant.clone() }
+}
+
 #[test]
 fn the_least_plant_runs() {
     let mut plant = samples::least_plant(Sizes { products: 1, customers: 1, weeks: 1 });
     plant.storage[0].greatest = 1;
     let slots = Slots::from_rows(&[vec![Slot { product: 0, minutes: 1 }]], vec![0]);
     assert_runs(&plant, &slots, 0);
+    assert_runs(&mounted(&plant, 0), &slots, 0);
     plant.inventory_costs[0] = 1;
     assert_runs(&plant, &slots, -1);
+    assert_runs(&mounted(&plant, 0), &slots, -1);
 }
 
 /// One week, which is shut: the shortest slot file.
@@ -39,6 +59,7 @@ fn the_least_plant_is_shut() {
     let slots = Slots::from_rows(&[Vec::new()], vec![0]);
     assert_eq!(slots.encode().len(), 29 + 1 + 4);
     assert_runs(&plant, &slots, 0);
+    assert_runs(&mounted(&plant, 0), &slots, 0);
 }
 
 /// All stock lies at the greatest limit, and everything is owed.
@@ -49,6 +70,10 @@ fn the_greatest_plant_is_shut() {
     let unit = 100_000;
     let inventory = 26 * 16 * unit * 4_000_000_000;
     let backlog: i64 = (1..=26).map(|week| 8 * 16 * unit * (week + 1) * 100_000_000).sum();
+    assert_runs(&plant, &slots, -inventory - backlog);
+    // The longest plant file.
+    let plant = mounted(&plant, 15);
+    assert_eq!(plant.encode().len(), 16_812 + 9 + 2);
     assert_runs(&plant, &slots, -inventory - backlog);
 }
 
@@ -72,14 +97,33 @@ fn most_weeks_are_shut() {
     assert_runs(&plant, &slots, -1_000_000 * 1000);
 
     // A minute of changeover more, and the last week is too full.
-    let mut plan = following::plan(&plant, &slots);
     plant.changeover_minutes[place] = 10_080;
-    following::fill_profit(&plant, &mut plan);
-    let (plant, plan, slots) = (plant.encode(), plan.encode(), slots.encode());
-    assert_eq!(library::check(&plant, &plan), Err(36));
-    assert_eq!(reference::check(&plant, &plan), Err(36));
-    assert_eq!(library::plan(&plant, &slots, &mut vec![0; plan.len()]), Err(36));
-    assert_eq!(reference::plan(&plant, &slots, &mut vec![0; plan.len()]), Err(36));
+    assert_refused(&plant, &slots, 36);
+}
+
+/// The last product is mounted, and the first or the last of 26 weeks produces. The
+/// changeover into it is the greatest, and the week has no other minute.
+#[test]
+fn the_first_changeover_is_the_greatest() {
+    let mut plant = mounted(&samples::greatest_plant(), 15);
+    plant.shortest_run = 1;
+    plant.storage.fill(Storage { least: 0, greatest: 4_000_000_000 });
+    plant.opening_inventory.fill(0);
+    plant.inventory_costs.fill(0);
+    plant.backlog_costs.fill(0);
+    let place = plant.sizes.from_to(15, 0);
+    for week in [0, 25] {
+        let mut rows = vec![Vec::new(); 26];
+        rows[week] = vec![Slot { product: 0, minutes: 1 }];
+        let slots = Slots::from_rows(&rows, vec![0; plant.demand.len()]);
+        plant.changeover_minutes[place] = 10_079;
+        assert_runs(&plant, &slots, -1_000_000 * 1000);
+        // A minute of changeover more, and the week is too full.
+        plant.changeover_minutes[place] = 10_080;
+        assert_refused(&plant, &slots, 36);
+        // With nothing mounted it is not.
+        assert_runs(&mounted(&plant, 255), &slots, 0);
+    }
 }
 
 /// One product runs all weeks and is sold as it is made; everything else is
@@ -109,6 +153,9 @@ fn the_greatest_plant_runs() {
     let this: i64 = (1..=26).map(|week| 100_000_000 + week * left).sum();
     let backlog = 8 * unit * (others + this);
     assert_runs(&plant, &slots, sold - inventory - backlog);
+    assert_runs(&mounted(&plant, 3), &slots, sold - inventory - backlog);
+    // The first week has no minute for a changeover.
+    assert_refused(&mounted(&plant, 15), &slots, 36);
 }
 
 /// Every product runs in every week: more slots than 8 bits can count.
@@ -169,9 +216,11 @@ fn lengths_beyond_32_bits_count() {
 
     // The pages that nothing reads or writes are never there.
     let mut long = vec![0; BEYOND + 300];
-    long[..plant.len()].copy_from_slice(plant);
-    assert_eq!(library::check(&long[..BEYOND + plant.len()], plan), Err(2));
-    assert_eq!(library::plan(&long[..BEYOND + plant.len()], slots, &mut out), Err(2));
+    for plant in [plant, &small::mounted_plant().encode()] {
+        long[..plant.len()].copy_from_slice(plant);
+        assert_eq!(library::check(&long[..BEYOND + plant.len()], plan), Err(2));
+        assert_eq!(library::plan(&long[..BEYOND + plant.len()], slots, &mut out), Err(2));
+    }
     long[..plan.len()].copy_from_slice(plan);
     assert_eq!(library::check(plant, &long[..BEYOND + plan.len()]), Err(12));
     long[..300].fill(0);
@@ -189,15 +238,17 @@ fn lengths_beyond_32_bits_count() {
 
 #[test]
 fn a_file_of_another_kind_is_refused() {
-    let (plant, plan) = (small::plant().encode(), small::plan().encode());
-    let slots = small::slots().encode();
+    let (plan, slots) = (small::plan().encode(), small::slots().encode());
     let mut out = [0xa5; 300];
-    assert_eq!(library::check(&plan, &plant), Err(1));
-    assert_eq!(library::check(&plan, &plan), Err(1));
-    assert_eq!(library::check(&plant, &plant), Err(11));
-    assert_eq!(library::check(&plant, &slots), Err(11));
-    assert_eq!(library::slots(&plant, &slots, &mut out), Err(11));
-    assert_eq!(library::plan(&plant, &plan, &mut out), Err(21));
-    assert_eq!(library::plan(&slots, &slots, &mut out), Err(1));
+    for plant in [small::plant().encode(), small::mounted_plant().encode()] {
+        assert_eq!(library::check(&plan, &plant), Err(1));
+        assert_eq!(library::check(&plan, &plan), Err(1));
+        assert_eq!(library::check(&plant, &plant), Err(11));
+        assert_eq!(library::check(&plant, &slots), Err(11));
+        assert_eq!(library::slots(&plant, &slots, &mut out), Err(11));
+        assert_eq!(library::plan(&plant, &plan, &mut out), Err(21));
+        assert_eq!(library::plan(&plant, &plant, &mut out), Err(21));
+        assert_eq!(library::plan(&slots, &slots, &mut out), Err(1));
+    }
     assert_eq!(out, [0xa5; 300]);
 }

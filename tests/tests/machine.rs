@@ -1,8 +1,8 @@
-//! The small plant's run, that over four weeks with two of them shut, and changes
-//! to both.
+//! The small plant's run, that with B mounted, that over four weeks with two of them
+//! shut, and changes to all.
 
 use doxkarin_tests::machine::run;
-use doxkarin_tests::model::{Plan, Plant, Refusal, Slots};
+use doxkarin_tests::model::{OpeningLine, Plan, Plant, Refusal, Slots};
 use doxkarin_tests::small;
 
 #[test]
@@ -22,6 +22,82 @@ fn the_small_plant_runs() {
         profit: 8_650_000,
     };
     assert_eq!(run(&small::plant(), &small::slots()), Ok(tables));
+}
+
+/// The small plant's plan, but for the changeover from B to A in week 0.
+#[test]
+fn the_small_plant_runs_with_b_mounted() {
+    let tables = Plan {
+        opening_changeovers: vec![0, 0, 1, 0, 0, 0, 0, 1],
+        profit: 8_650_000 - 500_000,
+        ..small::plan()
+    };
+    assert_eq!(run(&small::mounted_plant(), &small::slots()), Ok(tables));
+}
+
+fn with_mounted(plant: Plant, mounted: u8) -> Plant {
+    Plant { opening_line: Some(OpeningLine { mounted, was_shut: 0 }), ..plant }
+}
+
+/// A needs no changeover where it is mounted, and has its mark.
+#[test]
+fn the_mounted_product_costs_nothing() {
+    let tables = Plan { opening_changeovers: vec![1, 0, 0, 0, 0, 0, 0, 1], ..small::plan() };
+    assert_eq!(run(&with_mounted(small::plant(), 0), &small::slots()), Ok(tables));
+}
+
+/// 255 is nothing, as in kind 1.
+#[test]
+fn nothing_is_mounted() {
+    assert_eq!(run(&with_mounted(small::plant(), 255), &small::slots()), Ok(small::plan()));
+}
+
+#[test]
+fn the_week_before_changes_nothing() {
+    for mounted in [0, 1, 255] {
+        let not_shut = with_mounted(small::plant(), mounted);
+        let opening_line = Some(OpeningLine { mounted, was_shut: 1 });
+        let shut = Plant { opening_line, ..small::plant() };
+        assert_eq!(run(&shut, &small::slots()), run(&not_shut, &small::slots()));
+    }
+}
+
+/// The first week fits with its changeover of 30 minutes, and a minute more does not.
+#[test]
+fn the_first_changeover_takes_minutes() {
+    let run_first = |minutes| {
+        let mut slots = small::slots();
+        slots.slots[1].minutes = minutes;
+        run(&small::mounted_plant(), &slots).err()
+    };
+    assert_eq!(run_first(5010), None);
+    assert_eq!(run_first(5011), Some(36));
+}
+
+/// What is mounted before the shut weeks 0 and 1 is mounted in week 2.
+#[test]
+fn what_is_mounted_stays_over_the_first_weeks() {
+    let mut slots = small::long_slots();
+    slots.counts = vec![0, 0, 2, 1];
+    slots.sales = vec![0, 0, 500_000, 0, 0, 0, 100_000, 0];
+    let plant = small::long_plant();
+    let bare = run(&plant, &slots).expect("the run never stops");
+    let mut tables = bare.clone();
+    tables.opening_changeovers[plant.sizes.week_from_to(2, 1, 0)] = 1;
+    tables.profit -= 500_000;
+    assert_eq!(run(&with_mounted(plant, 1), &slots), Ok(tables));
+}
+
+/// Where nothing runs, nothing is changed over.
+#[test]
+fn every_week_may_be_shut_with_a_product_mounted() {
+    let mut slots = small::long_slots();
+    slots.counts.fill(0);
+    slots.slots.clear();
+    slots.sales.fill(0);
+    let plan = run(&with_mounted(small::long_plant(), 0), &slots);
+    assert!(plan.is_ok());
+    assert_eq!(plan, run(&small::long_plant(), &slots));
 }
 
 /// What is mounted stays mounted over the shut weeks, which sell from stock.

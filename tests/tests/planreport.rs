@@ -6,7 +6,7 @@ use std::path::{Path, PathBuf};
 use std::process::{Command, Output};
 
 use doxkarin_tests::layout::Parts;
-use doxkarin_tests::model::{Kind, Slot, Slots, Storage};
+use doxkarin_tests::model::{Kind, OpeningLine, Plant, Slot, Slots, Storage};
 use doxkarin_tests::random::Random;
 use doxkarin_tests::scenario::{greatest_sizes, sizes, Scenario};
 use doxkarin_tests::{facts, following, machine, report, samples, small};
@@ -88,6 +88,30 @@ passed 6650000
     let slots = Slots::from_rows(&vec![Vec::new(); 4], vec![0; plant.demand.len()]);
     let plan = machine::run(&plant, &slots).expect("the run never stops");
     assert_prints_of("all-shut", &plant.encode(), &plan.encode(), "passed -5400000\n");
+}
+
+#[test]
+fn the_first_changeover_has_its_minutes() {
+    let (plant, plan) = (small::mounted_plant(), small::mounted_plan());
+    assert_prints_of("mounted", &plant.encode(), &plan.encode(), facts::MOUNTED_TEXT);
+
+    // With A mounted or nothing, the first run needs no changeover.
+    for mounted in [0, 255] {
+        let line = OpeningLine { mounted, was_shut: 1 };
+        let plant = Plant { opening_line: Some(line), ..small::plant() };
+        let plan = machine::run(&plant, &small::slots()).expect("the run never stops");
+        assert_prints_of("no-changeover", &plant.encode(), &plan.encode(), facts::SMALL_TEXT);
+    }
+
+    // Shut weeks before the first run leave it as it is.
+    let line = OpeningLine { mounted: 1, was_shut: 0 };
+    let plant = Plant { opening_line: Some(line), ..small::long_plant() };
+    let run = Slot { product: 0, minutes: 2000 };
+    let rows = [vec![], vec![], vec![run], vec![run]];
+    let slots = Slots::from_rows(&rows, vec![0; plant.demand.len()]);
+    let plan = machine::run(&plant, &slots).expect("the run never stops");
+    let text = format!("passed {}\n3 0 30 30 2030\n4 0 0 0 2000\n", plan.profit);
+    assert_prints_of("mounted-shut", &plant.encode(), &plan.encode(), &text);
 }
 
 #[test]
@@ -174,6 +198,12 @@ fn files_are_read_as_far_as_65_536_bytes() {
     assert_prints_of("plant-beyond", &long, &plan.encode(), "refused 4\n");
     let cut = stretched(Kind::Plant, 1, plant.bodies(), 65_537);
     assert_prints_of("plant-cut", &cut, &plan.encode(), "refused 2\n");
+
+    let mounted = small::mounted_plant();
+    let long = stretched(mounted.kind(), 1, mounted.bodies(), 65_536);
+    assert_prints_of("mounted-full", &long, &plan.encode(), "refused 4\n");
+    let cut = stretched(mounted.kind(), 1, mounted.bodies(), 65_537);
+    assert_prints_of("mounted-cut", &cut, &plan.encode(), "refused 2\n");
 
     let mut long = stretched(Kind::Plan, 21, plan.bodies(), 65_536);
     assert_prints_of("plan-full", &plant.encode(), &long, "refused 13\n");

@@ -81,6 +81,14 @@ fn the_small_plant_goes_both_ways() {
 }
 
 #[test]
+fn the_small_plant_goes_both_ways_with_b_mounted() {
+    let (plant, slots, plan) =
+        (small::mounted_plant().encode(), small::slots().encode(), small::mounted_plan().encode());
+    assert_gives("planslots", "mounted-slots", &plant, &plan, &Ok(slots.clone()));
+    assert_gives("planwrite", "mounted-plan", &plant, &slots, &Ok(plan));
+}
+
+#[test]
 fn shut_weeks_go_both_ways() {
     let (plant, slots, plan) =
         (small::long_plant().encode(), small::long_slots().encode(), small::long_plan().encode());

@@ -1,10 +1,11 @@
 //! Slots out of a plan and the plan back, over the library, with outputs of
 //! several lengths.
 
-use doxkarin_tests::model::Refusal;
+use doxkarin_tests::model::{OpeningLine, Plant, Refusal};
+use doxkarin_tests::mutants::{PLAN_CHANGES, SLOTS_CHANGES};
 use doxkarin_tests::random::Random;
 use doxkarin_tests::scenario::{greatest_sizes, sizes, Scenario};
-use doxkarin_tests::{facts, forms, library, machine, samples, small};
+use doxkarin_tests::{facts, following, forms, library, machine, samples, small};
 
 /// What an output holds before a call: no byte is like its neighbours, and none
 /// is one that a cleared output would have.
@@ -59,6 +60,14 @@ fn the_small_plant_goes_both_ways() {
 }
 
 #[test]
+fn the_small_plant_goes_both_ways_with_b_mounted() {
+    let (plant, plan) = (small::mounted_plant().encode(), small::mounted_plan().encode());
+    let slots = small::slots().encode();
+    assert_writes(library::slots_into, &plant, &plan, &slots);
+    assert_writes(library::plan_into, &plant, &slots, &plan);
+}
+
+#[test]
 fn shut_weeks_go_both_ways() {
     let (plant, plan) = (small::long_plant().encode(), small::long_plan().encode());
     let slots = small::long_slots().encode();
@@ -88,6 +97,42 @@ fn random_slots_go_both_ways() {
 
         let plan = forms::read_plan(&plant, &plan_file).expect("a plan was written");
         assert_eq!(library::check(&plant_file, &plan_file), Ok(plan.profit));
+    }
+}
+
+/// Plants that differ only in the second number of section 12 get the same answers,
+/// half of the time on files with a change.
+#[test]
+fn the_week_before_changes_no_answer() {
+    let mut random = Random::new(12);
+    let (mut passed, mut refused) = (0, 0);
+    while passed.min(refused) < 400 {
+        let sizes = sizes(&mut random);
+        let Scenario { mut plant, mut slots } = Scenario::new(&mut random, sizes);
+        let mut plan = following::plan(&plant, &slots);
+        if random.one_in(2) {
+            random.pick(&PLAN_CHANGES)(&mut random, &mut plant, &slots, &mut plan);
+            random.pick(&SLOTS_CHANGES)(&mut random, &mut plant, &mut slots);
+        }
+        let Some(line) = plant.opening_line else { continue };
+        let (plan, slots) = (plan.encode(), slots.encode());
+        let [not_shut, shut] = [0, 1].map(|was_shut| {
+            let opening_line = Some(OpeningLine { was_shut, ..line });
+            let plant = Plant { opening_line, ..plant.clone() }.encode();
+            let (mut slots_out, mut plan_out) = (pattern(65_536), pattern(65_536));
+            let answers = (
+                library::check(&plant, &plan),
+                library::slots(&plant, &plan, &mut slots_out),
+                library::plan(&plant, &slots, &mut plan_out),
+            );
+            (answers, slots_out, plan_out)
+        });
+        assert!(not_shut == shut, "{:?} {:?}", not_shut.0, shut.0);
+        let ((checked, _, written), ..) = shut;
+        for is_passed in [checked.is_ok(), written.is_ok()] {
+            passed += usize::from(is_passed);
+            refused += usize::from(!is_passed);
+        }
     }
 }
 

@@ -1,27 +1,40 @@
 //! Each rule broken alone: one plan for each of 31 to 41 that meets all others.
-//! Then what is left in a shut week, and ZF around shut weeks.
+//! Then what is left in a shut week, and ZF around shut weeks and in the first
+//! producing week.
 
-use doxkarin_tests::model::{Plan, Plant, Refusal, Sizes};
+use doxkarin_tests::model::{OpeningLine, Plan, Plant, Refusal, Sizes, Slot, Slots};
 use doxkarin_tests::rules::{self, RULES};
 use doxkarin_tests::{facts, following, library, machine, reference, small};
 
-/// The small plant's plan after a change.
-fn changed(change: fn(&Plant, &mut Plan)) -> (Plant, Plan) {
-    let (plant, mut plan) = (small::plant(), small::plan());
+/// Section 12: none in kind 1; then nothing, A and B mounted in kind 4.
+const LINES: [Option<OpeningLine>; 4] = [
+    None,
+    Some(OpeningLine { mounted: 255, was_shut: 1 }),
+    Some(OpeningLine { mounted: 0, was_shut: 0 }),
+    Some(OpeningLine { mounted: 1, was_shut: 1 }),
+];
+
+/// The small plant's plan with this line, after a change.
+fn changed(line: Option<OpeningLine>, change: fn(&Plant, &mut Plan)) -> (Plant, Plan) {
+    let plant = Plant { opening_line: line, ..small::plant() };
+    let mut plan = following::plan(&plant, &small::slots());
     change(&plant, &mut plan);
     (plant, plan)
 }
 
-/// The plant and plan of a fact.
-fn fact(number: usize) -> (Plant, Plan) {
+/// The plant and plan of a fact, with this line.
+fn fact(line: Option<OpeningLine>, number: usize) -> (Plant, Plan) {
     let fact = facts::all().swap_remove(number - 1);
-    (fact.plant, fact.plan)
+    let plant = Plant { opening_line: line, ..fact.plant };
+    let plan = following::plan(&plant, &fact.slots.expect("the plan follows from slots"));
+    (plant, plan)
 }
 
 /// The small plant's first week, with both products first and last.
-fn two_orders() -> (Plant, Plan) {
+fn two_orders(line: Option<OpeningLine>) -> (Plant, Plan) {
     let sizes = Sizes { weeks: 1, ..small::plant().sizes };
-    let plant = Plant { sizes, demand: vec![400_000, 100_000], ..small::plant() };
+    let demand = vec![400_000, 100_000];
+    let plant = Plant { sizes, demand, opening_line: line, ..small::plant() };
     let mut plan = Plan::zeros(sizes);
     plan.ran.fill(1);
     plan.first.fill(1);
@@ -32,23 +45,29 @@ fn two_orders() -> (Plant, Plan) {
     (plant, plan)
 }
 
-fn examples() -> [(Refusal, (Plant, Plan)); 11] {
+fn examples(line: Option<OpeningLine>) -> [(Refusal, (Plant, Plan)); 11] {
     [
-        (31, two_orders()),
+        (31, two_orders(line)),
         (
             32,
-            changed(|plant, plan| {
+            changed(line, |plant, plan| {
                 plan.changeovers.fill(0);
                 following::fill_profit(plant, plan);
             }),
         ),
-        (33, changed(|_, plan| plan.opening_changeovers.fill(0))),
-        (34, changed(|_, plan| plan.places = vec![2, 1, 2, 1])),
-        (35, fact(5)),
-        (36, fact(7)),
+        (
+            33,
+            changed(line, |plant, plan| {
+                plan.opening_changeovers.fill(0);
+                following::fill_profit(plant, plan);
+            }),
+        ),
+        (34, changed(line, |_, plan| plan.places = vec![2, 1, 2, 1])),
+        (35, fact(line, 5)),
+        (36, fact(line, 7)),
         (
             37,
-            changed(|plant, plan| {
+            changed(line, |plant, plan| {
                 plan.grams[3] += 1;
                 following::fill_inventory(plant, plan);
                 following::fill_profit(plant, plan);
@@ -56,38 +75,41 @@ fn examples() -> [(Refusal, (Plant, Plan)); 11] {
         ),
         (
             38,
-            changed(|plant, plan| {
+            changed(line, |plant, plan| {
                 plan.backlog[3] -= 1;
                 following::fill_profit(plant, plan);
             }),
         ),
         (
             39,
-            changed(|plant, plan| {
+            changed(line, |plant, plan| {
                 plan.inventory[2] += 1;
                 following::fill_profit(plant, plan);
             }),
         ),
-        (40, fact(12)),
-        (41, fact(2)),
+        (40, fact(line, 12)),
+        (41, changed(line, |_, plan| plan.profit += 1)),
     ]
 }
 
 #[test]
 fn each_rule_is_broken_alone() {
-    for (number, (plant, plan)) in examples() {
+    for (number, (plant, plan)) in LINES.into_iter().flat_map(examples) {
         let broken: Vec<Refusal> = RULES
             .iter()
             .filter(|(_, holds)| !holds(&plant, &plan))
             .map(|&(number, _)| number)
             .collect();
-        assert_eq!(broken, [number]);
+        // One product is mounted, so that two first ones break 33 too.
+        let is_also_33 = number == 31 && plant.mounted().is_some();
+        let expected = if is_also_33 { vec![31, 33] } else { vec![number] };
+        assert_eq!(broken, expected, "{:?}", plant.opening_line);
     }
 }
 
 #[test]
 fn the_library_names_the_broken_rule() {
-    for (number, (plant, plan)) in examples() {
+    for (number, (plant, plan)) in LINES.into_iter().flat_map(examples) {
         let (plant, plan) = (plant.encode(), plan.encode());
         assert_eq!(library::check(&plant, &plan), Err(number));
         assert_eq!(reference::check(&plant, &plan), Err(number));
@@ -97,9 +119,11 @@ fn the_library_names_the_broken_rule() {
 
 #[test]
 fn the_small_plans_meet_every_rule() {
-    for (plant, plan) in
-        [(small::plant(), small::plan()), (small::long_plant(), small::long_plan())]
-    {
+    for (plant, plan) in [
+        (small::plant(), small::plan()),
+        (small::mounted_plant(), small::mounted_plan()),
+        (small::long_plant(), small::long_plan()),
+    ] {
         for (number, holds) in RULES {
             assert!(holds(&plant, &plan), "{number}");
         }
@@ -166,7 +190,7 @@ fn opening_changeovers_go_over_shut_weeks() {
     }
 }
 
-/// With the first three weeks shut, week 3 has no mark of ZF.
+/// With the first three weeks shut and nothing mounted, week 3 has no mark of ZF.
 #[test]
 fn the_first_producing_week_has_no_opening_changeover() {
     let plant = small::long_plant();
@@ -183,5 +207,42 @@ fn the_first_producing_week_has_no_opening_changeover() {
         following::fill_profit(&plant, &mut plan);
         assert_eq!(rules::first_broken(&plant, &plan), Some(33));
         assert_eq!(library::check(&plant.encode(), &plan.encode()), Err(33));
+    }
+}
+
+/// Whatever is mounted, and with up to three shut weeks before the first run: of all
+/// squares of ZF in each week up to that run only those of the machine pass.
+#[test]
+fn the_first_producing_week_opens_with_what_is_mounted() {
+    for (line, first, product) in LINES
+        .into_iter()
+        .flat_map(|line| (0..4).map(move |first| (line, first)))
+        .flat_map(|(line, first)| (0..2).map(move |product| (line, first, product)))
+    {
+        let plant = Plant { opening_line: line, ..small::long_plant() };
+        let sizes = plant.sizes;
+        let mut rows = vec![Vec::new(); 4];
+        rows[first] = vec![Slot { product, minutes: 2000 }];
+        let slots = Slots::from_rows(&rows, vec![0; plant.demand.len()]);
+        let right = machine::run(&plant, &slots).expect("the run never stops");
+        let mut marks = vec![0; right.opening_changeovers.len()];
+        if let Some(mounted) = plant.mounted() {
+            marks[sizes.week_from_to(first, mounted, product.into())] = 1;
+        }
+        assert_eq!(right.opening_changeovers, marks);
+
+        for week in 0..=first {
+            for square in 0u8..16 {
+                let mut plan = right.clone();
+                for (bit, place) in sizes.week_square(week).enumerate() {
+                    plan.opening_changeovers[place] = square >> bit & 1;
+                }
+                following::fill_profit(&plant, &mut plan);
+                let broken = (plan.opening_changeovers != marks).then_some(33);
+                assert_eq!(rules::first_broken(&plant, &plan), broken);
+                let expected = broken.map_or(Ok(plan.profit), Err);
+                assert_eq!(library::check(&plant.encode(), &plan.encode()), expected);
+            }
+        }
     }
 }

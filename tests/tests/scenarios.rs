@@ -1,9 +1,9 @@
-//! The random plants of the other tests: weeks are shut in every way, often, and
-//! their slots mostly run.
+//! The random plants of the other tests: both kinds and every sort of shut weeks
+//! are among them, often, and their slots mostly run.
 
 use doxkarin_tests::machine;
 use doxkarin_tests::random::Random;
-use doxkarin_tests::scenario::{sizes, Scenario, SHUT_WEEKS};
+use doxkarin_tests::scenario::{sizes, Scenario, SORTS};
 
 const SCENARIOS: usize = 4000;
 
@@ -12,10 +12,10 @@ fn percent(count: usize, of: usize) -> usize {
 }
 
 #[test]
-fn weeks_are_shut_in_every_way() {
+fn every_sort_runs() {
     let mut random = Random::new(9);
     let (mut shut, mut run) = (0, 0);
-    let mut ways = [0; SHUT_WEEKS.len()];
+    let mut sorts = [0; SORTS.len()];
     for _ in 0..SCENARIOS {
         let sizes = sizes(&mut random);
         let Scenario { plant, slots } = Scenario::new(&mut random, sizes);
@@ -24,13 +24,13 @@ fn weeks_are_shut_in_every_way() {
         }
         run += 1;
         shut += usize::from(slots.counts.contains(&0));
-        for ((_, are_shut), count) in SHUT_WEEKS.iter().zip(&mut ways) {
-            *count += usize::from(are_shut(&slots));
+        for ((_, is_sort), count) in SORTS.iter().zip(&mut sorts) {
+            *count += usize::from(is_sort(&plant, &slots));
         }
     }
     assert!(percent(run, SCENARIOS) >= 50, "{run} of {SCENARIOS} run");
     assert!(percent(shut, run) >= 25, "{shut} of {run} have shut weeks");
-    for ((name, _), count) in SHUT_WEEKS.iter().zip(ways) {
-        assert!(percent(count, run) >= 2, "{count} of {run} have shut weeks: {name}");
+    for ((name, _), count) in SORTS.iter().zip(sorts) {
+        assert!(percent(count, run) >= 1, "{count} of {run} are of the sort: {name}");
     }
 }

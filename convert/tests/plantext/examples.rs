@@ -2,7 +2,7 @@
 //! shut weeks, and the plants of source 004 say what its tables say.
 
 use plantext::binary;
-use plantext::model::{Names, Plant, Slots};
+use plantext::model::{Names, Plant, Slots, WeekBefore};
 use plantext::{plant_text, slots_text};
 
 use crate::machine;
@@ -27,6 +27,16 @@ fn the_small_plant_is_the_sample_files() {
     assert_eq!(binary::encode_plant(&plant), read("crates/formcheck/data/plant.bin"));
     assert_eq!(binary::encode_slots(&slots("small")), read("crates/formcheck/data/slots.bin"));
     assert_eq!(machine::run(&plant, &slots("small")), Ok(8_650_000));
+}
+
+/// The small plant's first run then pays the changeover from B to A (request 2026-02).
+#[test]
+fn the_small_plant_has_b_mounted() {
+    let (small, names) = plant("small");
+    let week_before = Some(WeekBefore { mounted: Some(1), shut: false });
+    let mounted = Plant { week_before, ..small };
+    assert_eq!(machine::run(&mounted, &slots("small")), Ok(8_650_000 - 500_000));
+    assert_eq!(plant("small-b-mounted"), (mounted, names));
 }
 
 #[test]

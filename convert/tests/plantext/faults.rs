@@ -20,8 +20,12 @@ fn unknown_words() {
     assert_eq!(
         plant_faults(&[(19, "stock A 0")]),
         ["19: unknown word \"stock\"; expected one of weeks, week-minutes, shortest-run, product, \
-          customer, rate, changeover, inventory-cost, storage, opening-inventory, price, \
-          backlog-cost, opening-backlog, demand"]
+          customer, mounted, week-before, rate, changeover, inventory-cost, storage, \
+          opening-inventory, price, backlog-cost, opening-backlog, demand"]
+    );
+    assert_eq!(
+        plant_faults(&[(19, "week-before open")]),
+        ["19: unknown word \"open\"; expected one of producing, shut"]
     );
     assert_eq!(
         plant_faults(&[(21, "demand C1 A day 1 400000")]),
@@ -38,6 +42,10 @@ fn unknown_words() {
 fn unknown_names() {
     assert_eq!(
         plant_faults(&[(19, "opening-inventory D 0")]),
+        ["19: unknown product \"D\"; expected one of A, B"]
+    );
+    assert_eq!(
+        plant_faults(&[(19, "mounted D")]),
         ["19: unknown product \"D\"; expected one of A, B"]
     );
     assert_eq!(
@@ -90,6 +98,17 @@ fn words_too_few_or_too_many() {
         plant_faults(&[(9, "changeover A B 40 minutes 600 cents each")]),
         ["9: \"each\" is too much; expected: changeover PRODUCT PRODUCT NUMBER minutes NUMBER cents"]
     );
+    for (line, fault) in [
+        ("mounted", "the line ends after \"mounted\"; expected: mounted PRODUCT"),
+        ("mounted A B", "\"B\" is too much; expected: mounted PRODUCT"),
+        (
+            "week-before",
+            "the line ends after \"week-before\"; expected: week-before shut or producing",
+        ),
+        ("week-before shut long", "\"long\" is too much; expected: week-before shut or producing"),
+    ] {
+        assert_eq!(plant_faults(&[(19, line)]), [format!("19: {fault}")]);
+    }
     assert_eq!(
         slots_faults(&[(2, "run A 5000 minutes fast")]),
         ["2: \"fast\" is too much; expected: run PRODUCT NUMBER minutes"]
@@ -434,6 +453,15 @@ fn facts_given_twice() {
         ),
     ] {
         assert_eq!(plant_faults(&[(line, text)]), [format!("{line}: {fault}")]);
+    }
+    for (first, second, word) in [
+        ("mounted A", "mounted B", "mounted"),
+        ("week-before shut", "week-before shut", "week-before"),
+    ] {
+        assert_eq!(
+            plant_faults(&[(19, first), (20, second)]),
+            [format!("20: {word} is given twice; expected once, as on line 19")]
+        );
     }
     assert_eq!(
         slots_faults(&[(5, "sell C1 A 0")]),

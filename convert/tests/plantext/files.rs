@@ -4,9 +4,10 @@
 use std::fs;
 
 use plantext::binary::{self, Refusal};
-use plantext::model::Plant;
+use plantext::model::{Plant, WeekBefore};
 use plantext::{plant_text, slots_text};
 
+use crate::random::plant_of;
 use crate::{read, repository};
 
 /// The sample files whose names begin so, each with its number, 0 if good.
@@ -31,6 +32,17 @@ fn read_sample(name: &str) -> Vec<u8> {
 
 fn small_plant() -> Plant {
     binary::decode_plant(&read_sample("plant.bin")).expect("the small plant")
+}
+
+/// A plant in kind 4, with its first product mounted.
+fn in_kind_4(plant: Plant) -> Plant {
+    Plant { week_before: Some(WeekBefore { mounted: Some(0), shut: false }), ..plant }
+}
+
+/// The small plant's files of kind 1 and of kind 4, each with where its contents end.
+fn small_plant_files() -> [(Vec<u8>, usize); 2] {
+    [(small_plant(), 101), (in_kind_4(small_plant()), 110)]
+        .map(|(plant, end)| (binary::encode_plant(&plant), end))
 }
 
 #[test]
@@ -97,10 +109,81 @@ fn every_number_of_a_plant_has_its_range() {
         |plant| plant.week_minutes = 10_081,
     ];
     for (place, change) in changes.iter().enumerate() {
-        let mut plant = small_plant();
-        change(&mut plant);
-        let file = binary::encode_plant(&plant);
-        assert_eq!(binary::decode_plant(&file), Err(Refusal(5)), "change {place}");
+        for mut plant in [small_plant(), in_kind_4(small_plant())] {
+            change(&mut plant);
+            let file = binary::encode_plant(&plant);
+            assert_eq!(binary::decode_plant(&file), Err(Refusal(5)), "change {place}");
+        }
+    }
+}
+
+/// Row 5 of section 12 (request 2026-02).
+#[test]
+fn the_week_before_has_its_range() {
+    for products in [1, 2, 3, 15, 16] {
+        let mut file = binary::encode_plant(&in_kind_4(plant_of(products)));
+        let section_12 = file.len() - 2;
+        for mounted in 0..=255 {
+            for shut in [0, 1, 2, 255] {
+                file[section_12..].copy_from_slice(&[mounted, shut]);
+                let good = (usize::from(mounted) < products || mounted == 255) && shut <= 1;
+                let expected = if good { Ok(file.clone()) } else { Err(Refusal(5)) };
+                let decoded = binary::decode_plant(&file);
+                let again = decoded.map(|plant| binary::encode_plant(&plant));
+                assert_eq!(again, expected, "{products} products: {mounted} {shut}");
+            }
+        }
+    }
+}
+
+/// Row 1: either kind has its count of sections and their numbers, and is no shorter
+/// than its contents.
+#[test]
+fn every_kind_has_its_contents() {
+    for (mut file, end) in small_plant_files() {
+        for length in 0..file.len() {
+            let number = if length < end { 1 } else { 2 };
+            assert_eq!(binary::decode_plant(&file[..length]), Err(Refusal(number)), "{length}");
+        }
+        for entry in (2..end).step_by(9) {
+            file[entry] += 1;
+            assert_eq!(binary::decode_plant(&file), Err(Refusal(1)), "entry at {entry}");
+            file[entry] -= 1;
+        }
+        let own = [file[0], file[1]];
+        for kind in 0..=255 {
+            for count in 0..=255 {
+                file[..2].copy_from_slice(&[kind, count]);
+                let refusal = match [kind, count] {
+                    pair if pair == own => None,
+                    // Kind 4 has the entries of kind 1, and one more before the bodies.
+                    [1, 11] => Some(Refusal(2)),
+                    _ => Some(Refusal(1)),
+                };
+                assert_eq!(binary::decode_plant(&file).err(), refusal, "{kind} {count}");
+            }
+        }
+    }
+}
+
+/// Rows 2, 3 and 4 of a plant, in either kind.
+#[test]
+fn every_kind_has_its_counts_and_lengths() {
+    for (file, end) in small_plant_files() {
+        for (place, count) in [(0, 0), (0, 17), (1, 0), (1, 9), (2, 0), (2, 27)] {
+            let mut file = file.clone();
+            file[end + place] = count;
+            assert_eq!(binary::decode_plant(&file), Err(Refusal(3)), "{place} {count}");
+        }
+        // The last section of another length, before its entry says so and after.
+        let own = file[end - 4];
+        for length in (0..own + 3).filter(|&length| length != own) {
+            let mut file = file.clone();
+            file.resize(file.len() - usize::from(own) + usize::from(length), 0);
+            assert_eq!(binary::decode_plant(&file), Err(Refusal(2)), "{length} bytes");
+            file[end - 4] = length;
+            assert_eq!(binary::decode_plant(&file), Err(Refusal(4)), "{length} bytes");
+        }
     }
 }
 
@@ -108,10 +191,12 @@ fn every_number_of_a_plant_has_its_range() {
 #[test]
 fn every_section_has_its_place() {
     // The contents begin at byte 2 with entries of 9 bytes, each with its offset at byte 1.
-    for section in 0..11 {
-        let mut file = read_sample("plant.bin");
-        file[2 + 9 * section + 1] ^= 1;
-        assert_eq!(binary::decode_plant(&file), Err(Refusal(2)), "section {section}");
+    for (file, end) in small_plant_files() {
+        for entry in (2..end).step_by(9) {
+            let mut file = file.clone();
+            file[entry + 1] ^= 1;
+            assert_eq!(binary::decode_plant(&file), Err(Refusal(2)), "entry at {entry}");
+        }
     }
     for section in 0..3 {
         let mut file = read_sample("slots.bin");

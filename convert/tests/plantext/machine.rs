@@ -5,7 +5,7 @@ use plantext::model::{Plant, Slots};
 /// Runs slots: the profit in thousandths of a cent, or the number of the stop.
 pub fn run(plant: &Plant, slots: &Slots) -> Result<i64, u8> {
     let sizes = plant.sizes;
-    let mut mounted = None;
+    let mut mounted = plant.week_before.and_then(|before| before.mounted).map(usize::from);
     let mut inventory: Vec<i64> = plant.opening_inventory.iter().copied().map(i64::from).collect();
     let mut backlog: Vec<i64> = plant.opening_backlog.iter().copied().map(i64::from).collect();
     let mut profit = 0;

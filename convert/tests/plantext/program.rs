@@ -127,6 +127,7 @@ fn files_become_texts_and_files_again() {
     let folder = Folder::new("files_become_texts");
     let plant = folder.printed("show plant.bin");
     assert!(plant.contains("\ndemand C1 P2 week 2 200000 grams\n"), "{plant}");
+    assert!(!plant.contains("mounted") && !plant.contains("week-before"), "{plant}");
     folder.write("shown-plant.txt", plant.as_bytes());
     folder.printed("plant shown-plant.txt again-plant.bin");
     assert_eq!(folder.read("again-plant.bin"), folder.read("plant.bin"));
@@ -138,17 +139,44 @@ fn files_become_texts_and_files_again() {
     assert_eq!(folder.read("again-slots.bin"), folder.read("slots.bin"));
 }
 
-/// From the texts of a plan at the year's end to a judged plan, and back to the
-/// same slots: what planreport prints, and the slots as they are shown.
-fn through_all_programs(name: &str, slots: &str) -> (String, String) {
+/// Each shape of section 12: mounted or not, shut or not.
+#[test]
+fn files_of_kind_4_become_texts_and_files_again() {
+    let folder = Folder::new("kind_4");
+    for (lines, shown) in [
+        ("mounted B", "\n\nmounted P2\nweek-before producing\n\n"),
+        ("mounted A\nweek-before shut", "\n\nmounted P1\nweek-before shut\n\n"),
+        ("week-before producing", "\n\nweek-before producing\n\n"),
+        ("week-before shut", "\n\nweek-before shut\n\n"),
+    ] {
+        folder.write("plant.txt", changed(&PLANT, &[(19, lines)]).as_bytes());
+        folder.printed("plant plant.txt plant.bin");
+        let plant = folder.printed("show plant.bin");
+        assert!(plant.contains(shown), "{plant}");
+        folder.write("shown.txt", plant.as_bytes());
+        folder.printed("plant shown.txt again.bin");
+        assert_eq!(folder.read("again.bin"), folder.read("plant.bin"), "{lines}");
+    }
+}
+
+/// From the texts of a plan to a judged plan, and back to the same slots: what
+/// planreport prints, and the slots as they are shown. The lengths are those of the
+/// plan file and of the slot file.
+fn through_all_programs(
+    name: &str,
+    plant: &str,
+    slots: &str,
+    lengths: [usize; 2],
+) -> (String, String) {
     let folder = Folder::new(name);
-    folder.write("plant.txt", &read("examples/year-end-6-weeks.plant.txt"));
+    folder.write("plant.txt", plant.as_bytes());
     folder.write("slots.txt", slots.as_bytes());
     folder.printed("plant plant.txt plant.bin");
     folder.printed("slots plant.txt slots.txt slots.bin");
-    assert_eq!(folder.proved("planwrite", "plant.bin slots.bin plan.bin"), "written 526\n");
+    let written = lengths.map(|length| format!("written {length}\n"));
+    assert_eq!(folder.proved("planwrite", "plant.bin slots.bin plan.bin"), written[0]);
     let report = folder.proved("planreport", "plant.bin plan.bin");
-    assert_eq!(folder.proved("planslots", "plant.bin plan.bin again.bin"), "written 152\n");
+    assert_eq!(folder.proved("planslots", "plant.bin plan.bin again.bin"), written[1]);
     assert_eq!(folder.read("again.bin"), folder.read("slots.bin"));
     let shown = folder.printed("show plant.txt again.bin");
     assert_eq!(facts(&shown), facts(slots));
@@ -168,8 +196,9 @@ const YEAR_END_RUNS: &str = "
 /// A shut week between producing weeks, which sells, and one at the end.
 #[test]
 fn shut_weeks_go_through_all_programs() {
+    let plant = read_text("examples/year-end-6-weeks.plant.txt");
     let slots = read_text("examples/year-end-6-weeks.slots.txt");
-    let (report, shown) = through_all_programs("shut_weeks", &slots);
+    let (report, shown) = through_all_programs("shut_weeks", &plant, &slots, [526, 152]);
     assert_eq!(report, format!("passed 21450000{YEAR_END_RUNS}"));
     assert!(shown.ends_with("\n\nweek 6\n"), "{shown}");
 }
@@ -177,13 +206,34 @@ fn shut_weeks_go_through_all_programs() {
 /// The same where the week between is a bare line.
 #[test]
 fn a_bare_week_goes_through_all_programs() {
+    let plant = read_text("examples/year-end-6-weeks.plant.txt");
     let slots = read_text("examples/year-end-6-weeks.slots.txt");
     let (before, rest) = slots.split_once("\nweek 3\n").expect("week 3");
     let (_, after) = rest.split_once("\nweek 4\n").expect("week 4");
     let slots = format!("{before}\nweek 3\nweek 4\n{after}");
-    let (report, shown) = through_all_programs("bare_week", &slots);
+    let (report, shown) = through_all_programs("bare_week", &plant, &slots, [526, 152]);
     assert_eq!(report, format!("passed 13100000{YEAR_END_RUNS}"));
     assert!(shown.contains("\n\nweek 3\n\nweek 4\n"), "{shown}");
+}
+
+/// With B mounted the first run pays a changeover (request 2026-02); whether the week
+/// before was shut changes nothing.
+#[test]
+fn a_mounted_product_goes_through_all_programs() {
+    let from_b = "passed 8150000\n1 0 30 30 5030\n1 1 40 5070 7070\n";
+    let from_a_or_nothing = "passed 8650000\n1 0 0 0 5000\n1 1 40 5040 7040\n";
+    let week_2 = "2 1 0 0 3000\n2 0 30 3030 5030\n";
+    let slots = read_text("examples/small.slots.txt");
+    for (name, line, week_1) in [
+        ("small-b-mounted", "", from_b),
+        ("small-b-mounted", "week-before shut", from_b),
+        ("small", "mounted A", from_a_or_nothing),
+        ("small", "week-before shut", from_a_or_nothing),
+    ] {
+        let plant = read_text(&format!("examples/{name}.plant.txt")) + line;
+        let (report, _) = through_all_programs("mounted", &plant, &slots, [222, 59]);
+        assert_eq!(report, format!("{week_1}{week_2}"), "{name} {line}");
+    }
 }
 
 #[test]

@@ -1,10 +1,10 @@
 //! Plants and slots with numbers anywhere in their ranges, many of them 0, and
-//! half of the weeks shut.
+//! half of the weeks shut; the plants are of both kinds.
 
 use std::ops::RangeInclusive;
 
 use plantext::limits;
-use plantext::model::{Plant, Sizes, Slot, Slots, Storage};
+use plantext::model::{Plant, Sizes, Slot, Slots, Storage, WeekBefore};
 
 /// A sequence of numbers that look random and are the same in every test run.
 pub struct Random(u64);
@@ -82,7 +82,15 @@ impl Random {
             opening_backlog: self.many(pairs, limits::OPENING_BACKLOG),
             shortest_run: self.minutes(1..=week_minutes.into()),
             week_minutes,
+            week_before: self.week_before(sizes.products),
         }
+    }
+
+    /// Nothing in plants of kind 1.
+    fn week_before(&mut self, products: usize) -> Option<WeekBefore> {
+        let values = week_befores(products);
+        let place = self.size(0..=values.len() as u64);
+        values.get(place).copied()
     }
 
     /// Slots that have the form, though hardly any run without a stop.
@@ -100,4 +108,17 @@ impl Random {
             sales: self.many(sizes.customers * sizes.products * sizes.weeks, limits::SALE),
         }
     }
+}
+
+/// A plant of so many products.
+pub fn plant_of(products: usize) -> Plant {
+    let mut plants = (0..).map(|seed| Random::new(seed).plant());
+    plants.find(|plant| plant.sizes.products == products).expect("one of the seeds")
+}
+
+/// All values of section 12 in a plant of so many products.
+pub fn week_befores(products: usize) -> Vec<WeekBefore> {
+    let products = u8::try_from(products).expect("at most 16 products");
+    let mounted = (0..products).map(Some).chain([None]);
+    mounted.flat_map(|mounted| [false, true].map(|shut| WeekBefore { mounted, shut })).collect()
 }

@@ -1,21 +1,45 @@
 //! From numbers to text and back, and to bytes and back.
 
-use plantext::model::{Names, Sizes, Slot, Slots};
+use plantext::model::{Names, Plant, Sizes, Slot, Slots, WeekBefore};
 use plantext::{binary, plant_text, slots_text};
 
-use crate::random::Random;
+use crate::random::{plant_of, week_befores, Random};
 use crate::read;
 use crate::texts;
+
+/// Takes a plant to text and back, and to bytes, which it gives, and back.
+fn through_text_and_bytes(plant: &Plant) -> Vec<u8> {
+    let names = Names::numbered(plant.sizes);
+    let text = plant_text::write(plant, &names);
+    assert_eq!(plant_text::read(text.as_bytes()), Ok((plant.clone(), names)));
+    let file = binary::encode_plant(plant);
+    assert_eq!(binary::decode_plant(&file).as_ref(), Ok(plant));
+    file
+}
 
 #[test]
 fn plants_come_back_from_text_and_bytes() {
     for seed in 0..200 {
-        let plant = Random::new(seed).plant();
-        let names = Names::numbered(plant.sizes);
-        let text = plant_text::write(&plant, &names);
-        assert_eq!(plant_text::read(text.as_bytes()), Ok((plant.clone(), names)), "seed {seed}");
-        let file = binary::encode_plant(&plant);
-        assert_eq!(binary::decode_plant(&file), Ok(plant), "seed {seed}");
+        through_text_and_bytes(&Random::new(seed).plant());
+    }
+}
+
+/// Plants of 1 to 16 products in kind 1, and in kind 4 with all values of section 12.
+#[test]
+fn both_kinds_come_back_from_text_and_bytes() {
+    for products in 1..=16 {
+        let mut plant = Plant { week_before: None, ..plant_of(products) };
+        let kind_1 = through_text_and_bytes(&plant);
+        assert_eq!(kind_1[..2], [1, 11]);
+        for week_before in week_befores(products) {
+            plant.week_before = Some(week_before);
+            let kind_4 = through_text_and_bytes(&plant);
+            assert_eq!(kind_4[..2], [4, 12]);
+            let (bodies, section_12) = kind_4[110..].split_at(kind_1.len() - 101);
+            assert_eq!(bodies, &kind_1[101..]);
+            let WeekBefore { mounted, shut } = week_before;
+            assert_eq!(section_12, [mounted.unwrap_or(255), shut.into()]);
+        }
     }
 }
 
@@ -106,7 +130,7 @@ fn facts_without_units_are_in_the_units_of_the_file() {
 }
 
 /// The small plant after changes to its text.
-fn plant_after(changes: &[(usize, &str)]) -> plantext::model::Plant {
+fn plant_after(changes: &[(usize, &str)]) -> Plant {
     let text = texts::changed(&texts::PLANT, changes);
     let (plant, _) = plant_text::read(text.as_bytes()).unwrap_or_else(|faults| {
         panic!("{changes:?}: {faults:?}");
@@ -154,6 +178,22 @@ fn what_is_not_written_is_0() {
     assert_eq!(plant.demand, [400_000, 300_000, 0, 0]);
     assert_eq!(plant.prices, [10, 0]);
     assert_eq!(plant.backlog_costs, [2, 0]);
+}
+
+/// Either line makes a plant of kind 4; what the other would say is not left open.
+#[test]
+fn the_week_before_may_be_written() {
+    for (lines, mounted, shut) in [
+        (["mounted B", ""], Some(1), false),
+        (["mounted A", "week-before producing"], Some(0), false),
+        (["week-before shut", "mounted B"], Some(1), true),
+        (["", "week-before shut"], None, true),
+        (["week-before producing", ""], None, false),
+    ] {
+        let plant = plant_after(&[(19, lines[0]), (20, lines[1])]);
+        assert_eq!(plant.week_before, Some(WeekBefore { mounted, shut }), "{lines:?}");
+        assert_eq!(Plant { week_before: None, ..plant }, plant_after(&[]), "{lines:?}");
+    }
 }
 
 #[test]

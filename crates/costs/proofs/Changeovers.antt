@@ -1,11 +1,17 @@
 -- Laws of what is mounted, and of the lookup of a changeover. Assumes nothing.
 use Prim.Native.Nat.{ℕ, _≤_, _<_}
 use Prim.{tt}
-use mathlib.Core.Path.{_≡_}
+use mathlib.Core.Path.{_≡_, refl}
+use mathlib.Core.Logic.{_⊎_, inl, inr}
+use mathlib.Core.Bool.{Bool, true, false, cond}
+use lib.Dec.{eqb}
+use borrow.Author.Tests.{eqb-false}
 use native.Mathlib.Omega.{arith}
 use Rattle.costs.specs.declared.Mounted.{Mounted}
 use Rattle.costs.specs.declared.Mounted.the-variants.{Nothing, Product}
+use Rattle.sections.specs.Limits.{nothingMounted}
 use Rattle.plant_file.specs.Plant.{LinePlant}
+use Rattle.plant_file.specs.Ranges.{LineRanges}
 use Rattle.costs.specs.Mounted.{mountedBelow, openingMounted}
 use Rattle.costs.specs.Changeover.{changeoverBetween, changeoverTo}
 
@@ -25,6 +31,12 @@ to-most N most table h Nothing p a b = omega arith
 to-most N most table h (Product q) p a b = between-most N most table h q p a b
 
 -- what is mounted at first is a product
-pub opening-below : (N : ℕ) (l : LinePlant) → mountedBelow N (openingMounted l)
+pub opening-below : (N : ℕ) (l : LinePlant) → LineRanges N l → mountedBelow N (openingMounted l)
 unfolding openingMounted
-opening-below N l = tt
+opening-below N l r = go (eqb (l .mounted) nothingMounted) refl (r .mounted-known)
+  where
+    go : (t : Bool) → eqb (l .mounted) nothingMounted ≡ t → (l .mounted < N) ⊎ (l .mounted ≡ nothingMounted)
+        → mountedBelow N (cond t Nothing (Product (l .mounted)))
+    go true e h = tt
+    go false e (inl h) = h
+    go false e (inr h) = absurd (eqb-false (l .mounted) nothingMounted e h)

@@ -8,8 +8,10 @@ ghost use Rattle.costs.specs.Mounted.{mountedBelow, isMounted, openingMo
 ghost use Rattle.costs.specs.declared.Mounted.the-variants.{Product};
 ghost use Rattle.costs.specs.Changeover.{LookedUp};
 use numbers::as_usize;
+use plant_file::NOTHING_MOUNTED;
 use plant_file::changeover_cents;
 use plant_file::changeover_minutes;
+use plant_file::mounted;
 use sections::Shape;
 use sections::index2;
 use units::Cents;
@@ -27,7 +29,11 @@ pub fn opening_mounted(plant: &[u8], f: Shape) -> Mounted
     requires { ⌜ plantForm (now plant) ≡ Good f ⌝ }
     ensures { λ r. ⌜ (r ≡ openingMounted (plantOf f (now (plant .entry)) .line)) × mountedBelow (f .products) r ⌝ }
 {
-    Mounted::Nothing
+    let product = mounted(plant, f);
+    if product == NOTHING_MOUNTED {
+        return Mounted::Nothing;
+    }
+    Mounted::Product(product as u8)
 }
 
 // 1 where a product is mounted, else 0.

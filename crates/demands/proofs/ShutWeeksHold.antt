@@ -20,6 +20,8 @@ use Rattle.plan_file.specs.Plan.{Plan, planOf}
 use Rattle.slot_file.specs.Slots.{Slot, slotCount, orderOfSlots, Slots, slotsOf}
 use Rattle.slot_file.proofs.Orders.{order-below}
 use Rattle.slot_file.proofs.SlotReads.{week-length, formed-not-24}
+use Rattle.costs.specs.declared.Mounted.{Mounted}
+use Rattle.costs.specs.declared.Mounted.the-variants.{Nothing}
 use Rattle.costs.specs.Mounted.{isMounted, openingMounted}
 use Rattle.machine.specs.declared.State.{State}
 use Rattle.rules.specs.Rules.{weekOf, mountedAfter, mountedBefore}
@@ -39,7 +41,7 @@ use Rattle.calls.specs.Check.{checkOf}
 use Rattle.calls.specs.Answer.{bytes, slotAnswer}
 use Rattle.demands.specs.ThirdDemand.{GivesFile}
 use Rattle.demands.specs.ShutWeeks.{ShutTables, ShutSales, IsShut, Produces, ShutWeeks}
-use Rattle.demands.proofs.ThirdDemandHolds.{given, slot-answer, third-demand}
+use Rattle.demands.proofs.ThirdDemandHolds.{given, given-slots}
 
 -- slots of no product are none
 no-slots : (N : ℕ) (xs : List Slot) → ProductsBelow N (orderOfSlots xs) → ((i : ℕ) → i < N → assignedIn (orderOfSlots xs) i ≡ 0) → xs ≡ []
@@ -125,12 +127,14 @@ module _ (plant : List ℕ) (f : Shape) (accepted : plantForm plant ≡ Good f) 
       between w h i j k m
       ∙ ap (λ (n : ℕ). mountedAfter (P .line) (X .line) n i * X .line .first w j) (end-over (f .products) (X .line) v w l e between-shut)
 
-  first-passage : (w : ℕ) → w < f .weeks → ((u : ℕ) → u < w → IsShut f X u)
-      → (i j : ℕ) → i < f .products → j < f .products → X .line .weekChangeover w i j ≡ 0
-  unfolding mountedBefore mountedAfter openingMounted
-  first-passage w l earlier i j k m =
-      between w l i j k m
-      ∙ (ap (λ (n : ℕ). mountedAfter (P .line) (X .line) n i * X .line .first w j) (end-opening (f .products) (X .line) w earlier) ∙ omega arith)
+  -- into the first producing week it leads from what the line begins with
+  pub opening-passage : (m : Mounted) → openingMounted (P .line) ≡ m → (w : ℕ) → w < f .weeks → ((u : ℕ) → u < w → IsShut f X u)
+      → (i j : ℕ) → i < f .products → j < f .products → X .line .weekChangeover w i j ≡ isMounted m i * X .line .first w j
+  unfolding mountedBefore mountedAfter
+  opening-passage m o w l earlier i j k h =
+      between w l i j k h
+      ∙ (ap (λ (n : ℕ). mountedAfter (P .line) (X .line) n i * X .line .first w j) (end-opening (f .products) (X .line) w earlier)
+      ∙ ap (λ (n : Mounted). isMounted n i * X .line .first w j) o)
 
   given-weeks : ShutWeeks plant f plan slots
   given-weeks =
@@ -138,13 +142,13 @@ module _ (plant : List ℕ) (f : Shape) (accepted : plantForm plant ≡ Good f) 
         shut-zero = λ w l none. (shut-tables w l none, shut-count w l none);
         sales-happen = shut-sales;
         passage = passage;
-        first-passage = first-passage;
+        first-passage = λ o w l earlier i j k h. opening-passage Nothing o w l earlier i j k h ∙ omega arith;
         rule-31 = rule31-facts (f .products);
         none-of-each = shut-each (f .products);
-        rule-33 = same-verdict P;
+        rule-33 = same-verdict P (R .line);
         count-of-0 = formed-not-24 f;
-        case-10 = ap (λ (l : List Fact). getD l 9 (judged (Broken 0))) small-plant-facts;
-        case-13 = ap (λ (l : List Fact). getD l 12 (judged (Broken 0))) small-plant-facts;
+        case-10 = ap (λ (l : List Fact). getD l 9 (judged (Broken 0))) (small-plant-facts .0);
+        case-13 = ap (λ (l : List Fact). getD l 12 (judged (Broken 0))) (small-plant-facts .0);
         mounted-before = mounted-before;
       }
 
@@ -152,7 +156,5 @@ module _ (plant : List ℕ) (f : Shape) (accepted : plantForm plant ≡ Good f) 
 pub shut-weeks : (plant : List ℕ) (f : Shape) → plantForm plant ≡ Good f → (plan : List ℕ) → Bytes plan
     → (q : Profit) → checkOf plant plan ≡ Passed q → (slots : List ℕ) → slotAnswer plant plan ≡ bytes slots → ShutWeeks plant f plan slots
 shut-weeks plant f accepted plan b q e slots a =
-    let r = third-demand plant f accepted plan b .passes-exactly .0 (q, e) in
-    let alike = sym (slot-answer plant f accepted plan b (r .0) (r .1) (r .2)) ∙ a in
-    let same : r .0 ≡ slots = cc in
-    rw same at (given-weeks plant f accepted plan b (r .0) (r .1) (r .2))
+    let r = given-slots plant f accepted plan b q e slots a in
+    given-weeks plant f accepted plan b slots (r .0) (r .1)

@@ -2,3 +2,4 @@ pub mod FirstDemand
 pub mod SecondDemand
 pub mod ThirdDemand
 pub mod ShutWeeks
+pub mod OpeningMounted

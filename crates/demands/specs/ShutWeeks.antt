@@ -15,7 +15,8 @@ use Rattle.plant_file.specs.Plant.{Plant, plantOf}
 use Rattle.plan_file.specs.Plan.{Plan, planOf}
 use Rattle.slot_file.specs.Slots.{WeekFormed, slotCount, slotsOf}
 use Rattle.slot_file.specs.Form.{slotForm}
-use Rattle.costs.specs.Mounted.{isMounted}
+use Rattle.costs.specs.declared.Mounted.the-variants.{Nothing}
+use Rattle.costs.specs.Mounted.{isMounted, openingMounted}
 use Rattle.machine.specs.declared.Outcome.the-variants.{Continues, Stops}
 use Rattle.rules.specs.declared.Verdict.the-variants.{Passed, Broken}
 use Rattle.rules.specs.Rules.{weekOf, mountedBefore, backlogBefore, inventoryBefore}
@@ -59,14 +60,15 @@ pub record ShutWeeks (plant : List ℕ) (f : Shape) (plan slots : List ℕ) : Ty
   pub passage : (v w : ℕ) → v < w → w < f .weeks → Produces f (planOf f plan) v → ((u : ℕ) → v < u → u < w → IsShut f (planOf f plan) u)
       → (i j : ℕ) → i < f .products → j < f .products
       → planOf f plan .line .weekChangeover w i j ≡ planOf f plan .line .last v i * planOf f plan .line .first w j
-  -- "if there was one"
-  pub first-passage : (w : ℕ) → w < f .weeks → ((u : ℕ) → u < w → IsShut f (planOf f plan) u)
+  -- "if there was one": with none, and nothing mounted before the first week (request 2026-02)
+  pub first-passage : openingMounted (plantOf f plant .line) ≡ Nothing → (w : ℕ) → w < f .weeks → ((u : ℕ) → u < w → IsShut f (planOf f plan) u)
       → (i j : ℕ) → i < f .products → j < f .products → planOf f plan .line .weekChangeover w i j ≡ 0
   -- "Rule 31 becomes "one F and one L, each on a product with E = 1, or none of E, F and L"": the latter is what is called shut here
   pub rule-31 : (x : WeekTables) → (rule31 (f .products) x ≡ true)
       ↔ ((OneMark (f .products) (x .first) (x .assigned) × OneMark (f .products) (x .last) (x .assigned)) ⊎ NoMark (f .products) x)
   pub none-of-each : (x : WeekTables) → (shut (f .products) x ≡ true) ↔ NoMark (f .products) x
-  -- "rule 33 takes that earlier week (all 0 in a shut week or with none earlier)": for every plan, passed or not
+  -- "rule 33 takes that earlier week (all 0 in a shut week or with none earlier)": for every plan, passed or not; `verdictInWords` has the rule in
+  -- these words, and in request 2026-02's where a product is mounted before the first week
   pub rule-33 : (x : Plan) → verdictOf (plantOf f plant) x ≡ verdictInWords (plantOf f plant) x
   -- "24 admits a count of 0": no file is refused with it whose weeks have 0 to N slots each, of products below N
   pub count-of-0 : (s : List ℕ) → ((w : ℕ) → w < f .weeks → WeekFormed (f .products) (slotsOf f s .line .week w)) → slotForm f s ≡ Refused 24 → ⊥

@@ -259,5 +259,5 @@ module _ (plant : List ℕ) (f : Shape) (good : plantForm plant ≡ Good f) wher
         clock-most = omega arith;
         profit-most = omega arith;
         ran-most = omega arith;
-        mounted-below = opening-below (f .products) (P .line);
+        mounted-below = opening-below (f .products) (P .line) (ranges .line);
       }

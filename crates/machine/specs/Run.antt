@@ -11,7 +11,7 @@ use Rattle.machine.specs.declared.Step.{Step}
 use Rattle.machine.specs.State.{updateRow, updateRows, continues, andThen}
 use Rattle.machine.specs.Machine.{weekBegin, slotDone, slotStep, WeekInput, weekInput, weekDone, weekEnd}
 
--- "the mounted product (none at first) .. the purse (0 at first)"; "begins with section 10's stock and owed"
+-- "the machine begun from that mounted product" (request 2026-02); "the purse (0 at first)"; "begins with section 10's stock and owed"
 unfoldable pub opening : Plant → State
 opening P =
     record {

@@ -112,7 +112,7 @@ module _ (N : ℕ) (table : ℕ → ℕ → ℕ) where
       grid-ext N N (λ i j. (a i j + b i j) * t i j) (λ i j. a i j * t i j + b i j * t i j) (λ i j _ _. omega arith)
       ∙ grid-add N N (λ i j. a i j * t i j) (λ i j. b i j * t i j)
 
-  one-changeover : (m : Mounted) (p : ℕ) → mountedBelow N m → p < N → changeoversUnder N table (λ i j. isMounted m i * is p j) ≡ changeoverTo table m p
+  pub one-changeover : (m : Mounted) (p : ℕ) → mountedBelow N m → p < N → changeoversUnder N table (λ i j. isMounted m i * is p j) ≡ changeoverTo table m p
   unfolding changeoversUnder
   one-changeover Nothing p h l = under-zero (λ i j. 0 * is p j) (λ i j a b. omega arith)
   one-changeover (Product q) p h l =

@@ -63,7 +63,7 @@ module _ {P : Plant} (R : PlantRanges P) {S : Slots} {s : State} {x : Plan} (g :
   unfolding runTables
   given-rules =
       rules-hold P x plan-meets (λ w l. passages-same (tables .line) (P .line) w l (run-passages P R S (P .weeks) (g .formed) w l)) times amounts
-      (g .same .profit ∙ (after-profit P S (P .weeks) (g .formed) ∙ sym (profit-same P x (runTables P S) tables (P .weeks) (omega arith))))
+      (g .same .profit ∙ (after-profit P S (R .line) (P .weeks) (g .formed) ∙ sym (profit-same P x (runTables P S) tables (P .weeks) (omega arith))))
 
   facts : (w : ℕ) → w < P .weeks → WeekFacts (P .products) (weekOf (x .line) w)
   facts w l = week-facts (P .products) (weekOf (x .line) w) (plan-meets w l)

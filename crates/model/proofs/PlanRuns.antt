@@ -14,7 +14,7 @@ use Rattle.mathematics.proofs.OrderTables.{OrderFacts, order-facts}
 use Rattle.mathematics.proofs.OrderTheorem as theorem
 use Rattle.mathematics.proofs.OrderTheorem.{shown-order, shown-tables}
 use Rattle.plant_file.specs.Plant.{Plant}
-use Rattle.plant_file.specs.Ranges.{PlantRanges}
+use Rattle.plant_file.specs.Ranges.{LineRanges, PlantRanges}
 use Rattle.plan_file.specs.Plan.{Plan}
 use Rattle.slot_file.specs.Slots.{orderOfSlots, WeekFormed, Slots}
 use Rattle.slot_file.proofs.Orders.{order-length, order-at, order-below}
@@ -113,11 +113,11 @@ module _ (P : Plant) (x : Plan) (b : Binary P x) (r : RulesHold P x) where
         }
 
   -- ---- 33
-  between-same : (w : ℕ) → w < P .weeks → (i j : ℕ) → i < P .products → j < P .products
+  between-same : LineRanges (P .products) (P .line) → (w : ℕ) → w < P .weeks → (i j : ℕ) → i < P .products → j < P .products
       → x .line .weekChangeover w i j
       ≡ isMounted (mountedAt P S w) i * firstIn (orderOfSlots (S .line .week w)) j
   unfolding weekOf
-  between-same w l i j k m =
+  between-same R w l i j k m =
       let h = passage-facts (P .products) (P .line) (x .line) w (r .r33 w l) in
       let before : (i : ℕ) → i < P .products → mountedBefore (P .products) (P .line) (x .line) w i ≡ isMounted (mountedAt P S w) i =
       mounted-before P S (x .line) (P .weeks) formed plan-agree w (omega arith) in
@@ -125,7 +125,7 @@ module _ (P : Plant) (x : Plan) (b : Binary P x) (r : RulesHold P x) where
       omega (
         arith,
         sum-ext (P .products) (mountedBefore (P .products) (P .line) (x .line) w) (isMounted (mountedAt P S w)) before,
-        mounted-one (P .products) (mountedAt P S w) (mounted-below P S w (λ u a. formed u (omega arith))),
+        mounted-one (P .products) (mountedAt P S w) (mounted-below P S R w (λ u a. formed u (omega arith))),
       ) in
       crossed (P .products) (x .line .first w) (mountedBefore (P .products) (P .line) (x .line) w) (x .line .weekChangeover w)
       (plan-facts w l .one-first) one (h .into-first) (h .out-of-mounted) i j k m
@@ -169,7 +169,7 @@ module _ (P : Plant) (x : Plan) (b : Binary P x) (r : RulesHold P x) where
             first = λ w i l k. plan-agree w l .first i k;
             last = λ w i l k. plan-agree w l .last i k;
             changeover = λ w i j l k m. plan-agree w l .changeover i k j m;
-            weekChangeover = λ w i j l k m. between-same w l i j k m;
+            weekChangeover = λ w i j l k m. between-same (R .line) w l i j k m;
             position = λ w i l k. plan-agree w l .position i k;
             minutes = λ w i l k. minutes-same w l i k;
           };
@@ -183,7 +183,7 @@ module _ (P : Plant) (x : Plan) (b : Binary P x) (r : RulesHold P x) where
     profit =
         profit-of P x r
         ∙ (profit-same P x (runTables P S) tables (P .weeks) (omega arith)
-        ∙ sym (after-profit P S (P .weeks) (λ w l. formed w l)))
+        ∙ sym (after-profit P S (R .line) (P .weeks) (λ w l. formed w l)))
 
     -- ---- the run has no stop
     slots-continue : (w : ℕ) → w < P .weeks → SlotsContinue P (S .line .week w) (weekBegin (after P S w))
@@ -202,7 +202,7 @@ module _ (P : Plant) (x : Plan) (b : Binary P x) (r : RulesHold P x) where
             sum-minutes (P .products) (S .line .week w) (order-below (P .products) (S .line .week w) f),
             sum-ext (P .products) (x .line .minutes w) (minutesOf (S .line .week w)) (minutes-same w l),
             changeovers-same (tables .line) w l (P .line .changeoverMinutes),
-            changeover-total P S (P .line .changeoverMinutes) w (λ u k. formed u (omega arith)) f,
+            changeover-total P S (R .line) (P .line .changeoverMinutes) w (λ u k. formed u (omega arith)) f,
           );
         }
 

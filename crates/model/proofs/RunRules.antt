@@ -60,7 +60,7 @@ module _ (P : Plant) (R : PlantRanges P) (S : Slots) where
             clock,
             under-minutes (P .products) (P .line) x w (P .line .changeoverMinutes),
             sum-minutes (P .products) xs (order-below (P .products) xs f),
-            changeover-total P S (P .line .changeoverMinutes) w g f,
+            changeover-total P S (R .line) (P .line .changeoverMinutes) w g f,
           );
         }
 

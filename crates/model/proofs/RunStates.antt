@@ -12,7 +12,7 @@ use Rattle.mathematics.specs.Week.{WeekTables, shut}
 use Rattle.mathematics.specs.Order.{ProductsBelow, lastIn, orderTables, Agree}
 use Rattle.mathematics.proofs.OrderTheorem.{agree-shut, agree-not-shut}
 use Rattle.plant_file.specs.Plant.{LinePlant, Plant}
-use Rattle.plant_file.specs.Ranges.{PlantRanges}
+use Rattle.plant_file.specs.Ranges.{LineRanges, PlantRanges}
 use Rattle.plan_file.specs.Plan.{LinePlan}
 use Rattle.slot_file.specs.Slots.{Slot, orderOfSlots, WeekFormed, Slots}
 use Rattle.slot_file.proofs.Orders.{order-below}
@@ -120,12 +120,12 @@ module _ (P : Plant) (S : Slots) where
   unfolding weekDone booked backlogAfter inventoryAfter withInventory withBacklog withProfit ranWeek weekBegin withLine withWeek
   after-mounted w = slots-mounted (P .line) (S .line .week w) (weekBegin (after P S w))
 
-  pub mounted-below : (n : ℕ) → FormedTo n → mountedBelow (P .products) (mountedAt P S n)
+  pub mounted-below : LineRanges (P .products) (P .line) → (n : ℕ) → FormedTo n → mountedBelow (P .products) (mountedAt P S n)
   unfolding opening
-  mounted-below zero f = opening-below (P .products) (P .line)
-  mounted-below (suc n) f =
+  mounted-below R zero f = opening-below (P .products) (P .line) R
+  mounted-below R (suc n) f =
       rw (after-mounted n) (last-below (P .products) (mountedAt P S n) (order n)
-      (mounted-below n (λ w l. f w (omega arith))) (order-below (P .products) (S .line .week n) (f n (omega arith))))
+      (mounted-below R n (λ w l. f w (omega arith))) (order-below (P .products) (S .line .week n) (f n (omega arith))))
 
   -- what a plan's tables say is mounted before a week is what the run has mounted then, where each week's tables are those of its slots' order
   pub mounted-before : (x : LinePlan) (n : ℕ) → FormedTo n → ((w : ℕ) → w < n → Agree (P .products) (weekOf x w) (orderTables (order w)))
@@ -139,11 +139,11 @@ module _ (P : Plant) (S : Slots) where
       ∙ sym (ap (λ (m : Mounted). isMounted m i) (after-mounted w)))
 
   -- changeovers by the tables
-  pub changeover-total : (table : ℕ → ℕ → ℕ) (w : ℕ) → FormedTo w → WeekFormed (P .products) (S .line .week w)
+  pub changeover-total : LineRanges (P .products) (P .line) → (table : ℕ → ℕ → ℕ) (w : ℕ) → FormedTo w → WeekFormed (P .products) (S .line .week w)
       → changeoversIn (P .products) table (lineTables (mountedAt P S) (S .line)) w ≡ totalChangeover table (mountedAt P S w) (order w)
   unfolding changeoversIn lineTables
-  changeover-total table w g f =
-      sum-changeovers (P .products) table (mountedAt P S w) (order w) (mounted-below w g) (order-below (P .products) (S .line .week w) f)
+  changeover-total R table w g f =
+      sum-changeovers (P .products) table (mountedAt P S w) (order w) (mounted-below R w g) (order-below (P .products) (S .line .week w) f)
 
   pub ran-clock : (w : ℕ) → ran w .line .clock .0
       ≡ totalMinutes (S .line .week w) + totalChangeover (P .line .changeoverMinutes) (mountedAt P S w) (order w)
@@ -151,17 +151,17 @@ module _ (P : Plant) (S : Slots) where
   ran-clock w = omega (arith, slots-clock (P .line) (S .line .week w) (weekBegin (after P S w)))
 
   -- the profit so far
-  ran-profit : (n : ℕ) → FormedTo (suc n) → ran n .profit .0 ≡ after P S n .profit .0 -ℤ pos (changeoverChargeIn P (runTables P S) n)
+  ran-profit : LineRanges (P .products) (P .line) → (n : ℕ) → FormedTo (suc n) → ran n .profit .0 ≡ after P S n .profit .0 -ℤ pos (changeoverChargeIn P (runTables P S) n)
   unfolding ranWeek weekBegin withLine withWeek changeoverChargeIn runTables
-  ran-profit n f =
+  ran-profit R n f =
       slots-profit (P .line) (S .line .week n) (weekBegin (after P S n))
       ∙ ap (λ (x : ℕ). after P S n .profit .0 -ℤ pos (changeoverChargeOf x))
-      (sym (changeover-total (P .line .changeoverCents) n (λ w l. f w (omega arith)) (f n (omega arith))))
+      (sym (changeover-total R (P .line .changeoverCents) n (λ w l. f w (omega arith)) (f n (omega arith))))
 
-  pub after-profit : (n : ℕ) → FormedTo n → after P S n .profit .0 ≡ profitOf P (runTables P S) n
+  pub after-profit : LineRanges (P .products) (P .line) → (n : ℕ) → FormedTo n → after P S n .profit .0 ≡ profitOf P (runTables P S) n
   unfolding opening profitOf revenueIn backlogChargeIn inventoryChargeIn runTables
-  after-profit zero f = refl
-  after-profit (suc n) f =
+  after-profit R zero f = refl
+  after-profit R (suc n) f =
       let x = runTables P S in
       let sales = revenueIn P x in
       let over = changeoverChargeIn P x in
@@ -169,7 +169,7 @@ module _ (P : Plant) (S : Slots) where
       let held = inventoryChargeIn P x in
       week-profit P (weekInput P S n) (ran n)
       ∙ ap (λ (z : ℤ). z +ℤ pos (sales n) -ℤ pos (late n) -ℤ pos (held n))
-      (ran-profit n f ∙ ap (λ (z : ℤ). z -ℤ pos (over n)) (after-profit n (λ w l. f w (omega arith))))
+      (ran-profit R n f ∙ ap (λ (z : ℤ). z -ℤ pos (over n)) (after-profit R n (λ w l. f w (omega arith))))
       ∙ week-more (sumBelow n sales) (sumBelow n over) (sumBelow n late) (sumBelow n held) (sales n) (over n) (late n) (held n)
 
   -- ---- backlog and inventory

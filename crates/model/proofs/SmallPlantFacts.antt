@@ -1,4 +1,4 @@
--- P1 to P13 of the small plant, together, by computation. Assumes nothing.
+-- P1 to P13 of the small plant, and the case with B mounted, together, by computation. Assumes nothing.
 use mathlib.Core.Path.{_≡_, refl}
 use mathlib.Core.List.{[], _∷_, map}
 use lib.IntN.{pos}
@@ -19,9 +19,9 @@ use Rattle.costs.specs.Changeover.{changeoverBetween}
 use Rattle.rules.specs.Verdict.{trials, tried, profitTried, verdictOf}
 use Rattle.model.specs.RunTables.{lineTables, runTables}
 use Rattle.model.specs.SmallPlant as small
-use Rattle.model.specs.SmallPlant.{judged, ran, factOf, smallPlant, threeProducts, ring, smallSlots, slotsOfB, smallCases}
+use Rattle.model.specs.SmallPlant.{judged, ran, factOf, smallPlantOf, smallPlant, threeProducts, ring, smallSlots, slotsOfB, smallCases, mountedCase}
 
-pub small-plant-facts : map factOf smallCases
+pub small-plant-facts : (map factOf smallCases
     ≡ ran (Passed (record { 0 = pos 8650000 })) Continues
     ∷ judged (Broken 41)
     ∷ judged (Broken 34)
@@ -35,13 +35,14 @@ pub small-plant-facts : map factOf smallCases
     ∷ ran (Passed (record { 0 = pos 8650000 })) Continues
     ∷ ran (Broken 40) (Stops 40)
     ∷ ran (Passed (record { 0 = pos 4500000 })) Continues
-    ∷ []
+    ∷ [])
+    × (factOf mountedCase ≡ ran (Passed (record { 0 = pos 8150000 })) Continues)
 small-plant-facts =
-    unfold smallPlant threeProducts ring smallSlots slotsOfB small.withProfit smallCases lineTables runTables in
+    unfold smallPlantOf smallPlant threeProducts ring smallSlots slotsOfB small.withProfit smallCases mountedCase lineTables runTables in
     unfold inventoryOf backlogOf hasRun withInventory withBacklog withLine withWeek withProfit withMounted weekBegin clockAfter slotDone slotStops slotStep in
     unfold salesDue backlogAfter salesInStock inventoryAfter storageKept booked weekDone weekEnd opening runWeek run ranWeek in
     unfold is markedOnce oneEach shut rule31 rule32 rule34 weekOf productionEnd mountedAfter mountedBefore in
     unfold rule33 rule35 rule36 rule37 rule38 rule39 rule40 rule41 trials tried profitTried verdictOf in
     unfold openingMounted changeoverBetween changeoversUnder changeoversIn backlogBefore inventoryBefore in
     unfold revenueIn changeoverChargeIn backlogChargeIn inventoryChargeIn profitOf in
-    refl
+    (refl, refl)

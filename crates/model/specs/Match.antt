@@ -13,9 +13,9 @@ use Rattle.machine.specs.Run.{run}
 use Rattle.rules.specs.Rules.{weekOf}
 use Rattle.model.specs.RunTables.{runTables}
 
--- N, C and W
+-- the kind, N, C and W
 abbrev pub shapeOfPlant : Plant → Shape
-shapeOfPlant P = record { products = P .products; customers = P .customers; weeks = P .weeks }
+shapeOfPlant P = record { kind = P .kind; products = P .products; customers = P .customers; weeks = P .weeks }
 
 -- row 24, of every week
 abbrev pub Formed : Plant → Slots → Type 0

@@ -55,7 +55,7 @@ pub record TimeModel (N shortest week : ℕ) (l : LinePlant) (x : LinePlan) (w :
       + sumBelow N (λ i. sumBelow N (λ j. (x .changeover w i j + x .weekChangeover w i j) * l .changeoverMinutes i j)) ≤ week
 
 -- the changeovers into a line's week w: (8), one into the first product, and (9), one out of what is mounted before the week, "the last product
--- of the last producing week" (request 2026-01); none in a shut week or with nothing mounted
+-- of the last producing week" (request 2026-01) or what the plant begins with (2026-02); none in a shut week or with nothing mounted
 pub record BetweenModel (N : ℕ) (l : LinePlant) (x : LinePlan) (w : ℕ) : Type 0 where
   pub into-first : (j : ℕ) → j < N → sumBelow N (λ i. x .weekChangeover w i j) ≡ x .first w j * sumBelow N (mountedBefore N l x w)
   pub out-of-mounted : (i : ℕ) → i < N → sumBelow N (λ j. x .weekChangeover w i j) ≡ mountedBefore N l x w i * sumBelow N (x .first w)

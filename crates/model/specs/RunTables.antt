@@ -31,7 +31,7 @@ minutesOf (x ∷ xs) i = is (x .product) i * x .minutes + minutesOf xs i
 
 -- "E, F, L say who ran, first, last. Z marks neighbours within the week. .. O is the place in the week from 1, or 0": the tables of the
 -- week's order. "ZF marks last of the week before to first of this one (a product to itself included; all 0 in week 0)", by request 2026-01 "the
--- last product of the last producing week": what is mounted before the week, to its first product
+-- last product of the last producing week", by request 2026-02 in week 0 too: what is mounted before the week, to its first product
 unfoldable pub lineTables : (before : ℕ → Mounted) → LineSlots → LinePlan
 lineTables before slots =
     record {

@@ -3,6 +3,7 @@ use Prim.Native.Nat.{ℕ, suc}
 use mathlib.Core.List.{List, [], _∷_}
 use lib.ListN.{getD}
 use lib.IntN.{ℤ, pos}
+use Rattle.sections.specs.Limits.{nothingMounted}
 use Rattle.plant_file.specs.Plant.{Plant}
 use Rattle.plan_file.specs.Plan.{Plan}
 use Rattle.slot_file.specs.Slots.{Slot, Slots}
@@ -19,10 +20,11 @@ row l i = getD l i 0
 abbrev pub table : List (List ℕ) → ℕ → ℕ → ℕ
 table l i j = row (getD l i []) j
 
--- A and B, with A's limit of storage
-unfoldable pub smallPlant : ℕ → Plant
-smallPlant limit =
+-- A and B, with what is mounted before the first week and A's limit of storage
+unfoldable pub smallPlantOf : (kind mounted limit : ℕ) → Plant
+smallPlantOf kind mounted limit =
     record {
+      kind = kind;
       products = 2;
       customers = 1;
       weeks = 2;
@@ -31,6 +33,8 @@ smallPlant limit =
             rate = row (100 ∷ 50 ∷ []);
             changeoverMinutes = table ((0 ∷ 40 ∷ []) ∷ (30 ∷ 0 ∷ []) ∷ []);
             changeoverCents = table ((0 ∷ 600 ∷ []) ∷ (500 ∷ 0 ∷ []) ∷ []);
+            mounted = mounted;
+            shutBefore = 0;
           };
       demand = λ c. table ((400000 ∷ 300000 ∷ []) ∷ (100000 ∷ 200000 ∷ []) ∷ []);
       price = λ c. row (10 ∷ 12 ∷ []);
@@ -44,10 +48,15 @@ smallPlant limit =
       weekMinutes = 10080;
     }
 
+unfoldable pub smallPlant : ℕ → Plant
+unfolding smallPlantOf
+smallPlant limit = smallPlantOf 1 nothingMounted limit
+
 -- the first week alone, of A, B and C
 unfoldable pub threeProducts : Plant
 threeProducts =
     record {
+      kind = 1;
       products = 3;
       customers = 1;
       weeks = 1;
@@ -56,6 +65,8 @@ threeProducts =
             rate = row (100 ∷ 50 ∷ 50 ∷ []);
             changeoverMinutes = table ((0 ∷ 40 ∷ 0 ∷ []) ∷ (30 ∷ 0 ∷ 0 ∷ []) ∷ []);
             changeoverCents = table ((0 ∷ 600 ∷ 0 ∷ []) ∷ (500 ∷ 0 ∷ 0 ∷ []) ∷ []);
+            mounted = nothingMounted;
+            shutBefore = 0;
           };
       demand = λ c. table ((400000 ∷ []) ∷ (100000 ∷ []) ∷ (100000 ∷ []) ∷ []);
       price = λ c. row (10 ∷ 12 ∷ 12 ∷ []);
@@ -145,3 +156,7 @@ smallCases =
     ∷ slotted (smallPlant 99999) (slotsOfB 2000 3000 150000)  -- P12
     ∷ slotted (smallPlant 2000000) (smallSlots 2000 [] (400000 ∷ 100000 ∷ []) (100000 ∷ 0 ∷ []))  -- P13
     ∷ []
+
+-- request 2026-02: P1's slots, with B mounted before the first week
+unfoldable pub mountedCase : Case
+mountedCase = slotted (smallPlantOf 4 1 2000000) (slotsOfB 2000 3000 150000)

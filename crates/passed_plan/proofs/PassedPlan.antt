@@ -100,6 +100,6 @@ passed-plan f plant plan q bytes h =
       given = g;
       mounted = λ w l.
           mounted-of (f .products) (mountedAt P (shownIn f plan) w) (mountedBefore (f .products) (P .line) (x .line) w)
-          (mounted-below P (shownIn f plan) w (λ v k. g .formed v (omega arith)))
+          (mounted-below P (shownIn f plan) (R .line) w (λ v k. g .formed v (omega arith)))
           (mounted-before P (shownIn f plan) (x .line) (f .weeks) (g .formed) (plan-agree R g) w (omega arith));
     }

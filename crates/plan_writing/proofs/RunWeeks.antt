@@ -67,7 +67,7 @@ module _ (f : Shape) (plant slots : List ℕ) (h : Ran f plant slots) where
 
   -- what is mounted is one of the products
   pub mounted-known : (w : ℕ) → w ≤ f .weeks → mountedBelow (f .products) (mountedAt P S w)
-  mounted-known w l = mounted-below P S w (λ u k. formed u (omega arith))
+  mounted-known w l = mounted-below P S (ranges .line) w (λ u k. formed u (omega arith))
 
   -- the profit of the tables is the run's
   pub profit-is : run P S .state .profit .0 ≡ runTables P S .profit

@@ -1,3 +1,4 @@
+pub mod PlantKinds
 pub mod Cells
 pub mod PlantReads
 pub mod PlantInRange

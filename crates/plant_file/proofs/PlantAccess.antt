@@ -2,6 +2,7 @@
 use Prim.Native.Nat.{ℕ, _+_, _*_, _/_, _%_, _≤_, _<_}
 use mathlib.Core.Path.{_≡_, sym, ap, _∙_}
 use mathlib.Core.List.{List}
+use native.Mathlib.Omega.{arith}
 use lib.ListN.{getD}
 use Rattle.mathematics.proofs.Pairs.{pair-of}
 use Rattle.numbers.specs.Number.{Width}
@@ -15,7 +16,7 @@ use Rattle.plant_file.proofs.PlantReads.{good-laid}
 -- number j of the m numbers of k bytes that make up the section in a place
 held : {s : List ℕ} {f : Shape} (k : ℕ) → Width k → plantForm s ≡ Good f → (place : ℕ) → place < 11
     → {m j : ℕ} → k * m ≤ getD (plantLengths f) place 0 → j < m → Inside s place k j
-held {s} {f} k w good place l {m} {j} h r = holds-inside (laid-holds (good-laid s f good) place l k m w h) j r
+held {s} {f} k w good place l {m} {j} h r = holds-inside (laid-holds (good-laid s f good) place (omega (arith, l)) k m w h) j r
 
 pub held2 : {s : List ℕ} {f : Shape} → plantForm s ≡ Good f → (place : ℕ) → place < 11
     → {m j : ℕ} → 2 * m ≤ getD (plantLengths f) place 0 → j < m → Inside s place 2 j

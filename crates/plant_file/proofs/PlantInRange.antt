@@ -1,10 +1,11 @@
 -- THE RANGES: every number of a good plant file is within the range that the paper gives it. Assumes nothing.
 use Prim.Native.Nat.{ℕ, _+_, _*_, _≤_, _<_}
-use mathlib.Core.Path.{_≡_, ap}
-use mathlib.Core.Bool.{true, _&&_}
+use mathlib.Core.Path.{_≡_, refl}
+use mathlib.Core.Logic.{_⊎_, inl, inr}
+use mathlib.Core.Bool.{Bool, true, false, _&&_, _||_}
 use mathlib.Core.List.{List}
-use lib.Dec.{leb, eqb}
-use borrow.Author.Tests.{leb-true, eqb-true}
+use lib.Dec.{leb, ltb, eqb}
+use borrow.Author.Tests.{leb-true, ltb-true, eqb-true}
 use Rattle.mathematics.specs.Below.{within}
 use Rattle.mathematics.proofs.Below.{and-both, all-each, within-at}
 use Rattle.mathematics.proofs.Join.{table-below}
@@ -13,32 +14,49 @@ use Rattle.sections.specs.Section.{inRange, diagonalZero}
 use Rattle.sections.specs.declared.Shape.{Shape}
 use Rattle.sections.specs.declared.Form.the-variants.{Good}
 use Rattle.sections.proofs.Tables.{range-at, range-first, cube-below}
-use Rattle.sections.specs.Limits.{mostRate, mostChangeoverMinutes, mostChangeoverCents, mostDemand, mostUnitCost, mostStorage, mostOpeningBacklog}
+use Rattle.sections.specs.Limits.{mostRate, mostChangeoverMinutes, mostChangeoverCents, mostDemand, mostUnitCost, mostStorage, nothingMounted}
 use Rattle.plant_file.specs.Plant.{lineOf, plantOf, rateIn, changeoverMinutesIn, changeoverCentsIn, demandIn, priceIn, backlogCostIn}
 use Rattle.plant_file.specs.Plant.{inventoryCostIn, leastStorageIn, greatestStorageIn, openingInventoryIn, openingBacklogIn, shortestRunIn, weekMinutesIn}
-use Rattle.plant_file.specs.Form.{inLimits, lineInRange, marketInRange, storageInRange, openingInRange, timeInRange, plantInRange, plantForm}
+use Rattle.plant_file.specs.Plant.{mountedIn, shutBeforeIn}
+use Rattle.plant_file.specs.Kinds.{plantKind}
+use Rattle.plant_file.specs.Form.{inLimits, diagonalsInRange, mountedKnown, mountedInRange, lineInRange, marketInRange, storageInRange}
+use Rattle.plant_file.specs.Form.{openingInRange, timeInRange, plantInRange, plantForm}
 use Rattle.plant_file.specs.Ranges.{LineRanges, PlantRanges}
+use Rattle.plant_file.proofs.PlantKinds.{kind-backlog, kind-diagonals}
 use Rattle.plant_file.proofs.PlantReads.{plant-good}
 
 diagonal-at : (k : ℕ) (s : List ℕ) (i n : ℕ) → diagonalZero k s i n ≡ true → (j : ℕ) → j < n → cell k s i (j * n + j) ≡ 0
 unfolding diagonalZero
 diagonal-at k s i n h j l = eqb-true _ _ (all-each n (λ q. eqb (cell k s i (q * n + q)) 0) h j l)
 
+-- section 12, by the test of its range
+mounted-known : (N m : ℕ) → mountedKnown N m ≡ true → (m < N) ⊎ (m ≡ nothingMounted)
+unfolding mountedKnown
+mounted-known N m h = go (ltb m N) refl h
+  where
+    go : (t : Bool) → ltb m N ≡ t → (t || eqb m nothingMounted) ≡ true → (m < N) ⊎ (m ≡ nothingMounted)
+    go true e g = inl (ltb-true m N e)
+    go false e g = inr (eqb-true m nothingMounted g)
+
 line-ranges : (s : List ℕ) (f : Shape) → lineInRange s f ≡ true → LineRanges (f .products) (lineOf f s)
-unfolding lineInRange rateIn changeoverMinutesIn changeoverCentsIn
+unfolding lineInRange diagonalsInRange mountedInRange rateIn changeoverMinutesIn changeoverCentsIn
 line-ranges s f h =
     let n = f .products in
     let a = and-both (inRange 4 s 1 0 n 1 mostRate) _ h in
     let b = and-both (inRange 2 s 2 0 (n * n) 0 mostChangeoverMinutes) _ (a .1) in
-    let d = and-both (diagonalZero 2 s 2 n) _ (b .1) in
-    let e = and-both (inRange 4 s 3 0 (n * n) 0 mostChangeoverCents) _ (d .1) in
+    let d = and-both (inRange 4 s 3 0 (n * n) 0 mostChangeoverCents) _ (b .1) in
+    let e = and-both (diagonalsInRange s f) _ (d .1) in
+    let zero = and-both (diagonalZero 2 s 2 n) _ (rw (kind-diagonals (f .kind)) at (e .0)) in
+    let before = and-both (leb (shutBeforeIn f s) 1) _ (e .1) in
     record {
       rate-least = λ i l. range-first 4 s 1 n 1 mostRate (a .0) i l .0;
       rate-most = λ i l. range-first 4 s 1 n 1 mostRate (a .0) i l .1;
       minutes-most = λ i j l m. range-first 2 s 2 (n * n) 0 mostChangeoverMinutes (b .0) (i * n + j) (table-below l m) .1;
-      minutes-diagonal = diagonal-at 2 s 2 n (d .0);
-      cents-most = λ i j l m. range-first 4 s 3 (n * n) 0 mostChangeoverCents (e .0) (i * n + j) (table-below l m) .1;
-      cents-diagonal = diagonal-at 4 s 3 n (e .1);
+      minutes-diagonal = diagonal-at 2 s 2 n (zero .0);
+      cents-most = λ i j l m. range-first 4 s 3 (n * n) 0 mostChangeoverCents (d .0) (i * n + j) (table-below l m) .1;
+      cents-diagonal = diagonal-at 4 s 3 n (zero .1);
+      mounted-known = mounted-known n (mountedIn f s) (before .1);
+      shut-before-most = leb-true _ _ (before .0);
     }
 
 storage-at : (s : List ℕ) (n : ℕ) → storageInRange s n ≡ true → (i : ℕ) → i < n
@@ -85,7 +103,9 @@ plant-ranges s f good =
       storage-ordered = λ i x. storage-at s n (d .0) i x .0;
       storage-most = λ i x. storage-at s n (d .0) i x .1;
       opening-inventory-most = λ i x. range-first 4 s 9 n 0 mostStorage (opening .0) i x .1;
-      opening-backlog-most = λ c i x y. range-at 4 s 9 n cn 0 mostOpeningBacklog (opening .1) (c * n + i) (table-below x y) .1;
+      opening-backlog-most =
+          λ c i x y.
+          rw (← (kind-backlog (f .kind))) (range-at 4 s 9 n cn 0 (plantKind (f .kind) .backlog) (opening .1) (c * n + i) (table-below x y) .1);
       shortest-least = shortest .0;
       shortest-most = shortest .1;
       week-most = leb-true _ _ (time .1);

@@ -1,3 +1,4 @@
+pub mod Kinds
 pub mod Plant
 pub mod Form
 pub mod Ranges

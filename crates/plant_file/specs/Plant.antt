@@ -1,19 +1,26 @@
 -- The numbers of a plant file, section by section, as paper 01 lists them under "Files". Products, customers and weeks count from 0.
 -- Assumes nothing.
 use Prim.Native.Nat.{ℕ, _+_, _*_}
+use mathlib.Core.Bool.{cond}
 use mathlib.Core.List.{List}
 use Rattle.contents.specs.Contents.{cell}
 use Rattle.sections.specs.declared.Shape.{Shape}
+use Rattle.sections.specs.Limits.{nothingMounted}
+use Rattle.plant_file.specs.Kinds.{hasMounted}
 
--- what belongs to one production line: sections 2 to 4
+-- what belongs to one production line: sections 2 to 4 and 12
 pub record LinePlant : Type 0 where
   -- grams a minute of a product
   pub rate : ℕ → ℕ
   -- from one product to another
   pub changeoverMinutes : ℕ → ℕ → ℕ
   pub changeoverCents : ℕ → ℕ → ℕ
+  -- the product that is mounted before the first week, or `nothingMounted`; 1 if the week before it was shut, else 0 (request 2026-02)
+  pub mounted : ℕ
+  pub shutBefore : ℕ
 
 pub record Plant : Type 0 where
+  pub kind : ℕ
   pub products : ℕ
   pub customers : ℕ
   pub weeks : ℕ
@@ -81,12 +88,27 @@ shortestRunIn s = cell 2 s 10 0
 unfoldable pub weekMinutesIn : List ℕ → ℕ
 weekMinutesIn s = cell 2 s 10 1
 
+-- section 12; "Kind 1 reads as 255 and 0"
+unfoldable pub mountedIn : Shape → List ℕ → ℕ
+mountedIn f s = cond (hasMounted (f .kind)) (cell 1 s 11 0) nothingMounted
+
+unfoldable pub shutBeforeIn : Shape → List ℕ → ℕ
+shutBeforeIn f s = cond (hasMounted (f .kind)) (cell 1 s 11 1) 0
+
 abbrev pub lineOf : Shape → List ℕ → LinePlant
-lineOf f s = record { rate = rateIn s; changeoverMinutes = changeoverMinutesIn f s; changeoverCents = changeoverCentsIn f s }
+lineOf f s =
+    record {
+      rate = rateIn s;
+      changeoverMinutes = changeoverMinutesIn f s;
+      changeoverCents = changeoverCentsIn f s;
+      mounted = mountedIn f s;
+      shutBefore = shutBeforeIn f s;
+    }
 
 abbrev pub plantOf : Shape → List ℕ → Plant
 plantOf f s =
     record {
+      kind = f .kind;
       products = f .products;
       customers = f .customers;
       weeks = f .weeks;

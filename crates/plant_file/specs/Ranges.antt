@@ -1,11 +1,12 @@
 -- Every range of a plant's numbers, as paper 01 lists them under "Files". Assumes nothing.
 use Prim.Native.Nat.{ℕ, _≤_, _<_}
 use mathlib.Core.Path.{_≡_}
+use mathlib.Core.Logic.{_⊎_}
 use Rattle.sections.specs.Limits.{mostProducts, mostCustomers, mostWeeks, mostRate, mostChangeoverMinutes, mostChangeoverCents, mostDemand}
-use Rattle.sections.specs.Limits.{mostUnitCost, mostStorage, mostOpeningBacklog, mostWeekMinutes}
+use Rattle.sections.specs.Limits.{mostUnitCost, mostStorage, mostOpeningBacklog, nothingMounted, mostWeekMinutes}
 use Rattle.plant_file.specs.Plant.{LinePlant, Plant}
 
--- sections 2 to 4, of a line for N products
+-- sections 2 to 4 and 12, of a line for N products
 pub record LineRanges (N : ℕ) (x : LinePlant) : Type 0 where
   pub rate-least : (i : ℕ) → i < N → 1 ≤ x .rate i
   pub rate-most : (i : ℕ) → i < N → x .rate i ≤ mostRate
@@ -13,6 +14,8 @@ pub record LineRanges (N : ℕ) (x : LinePlant) : Type 0 where
   pub minutes-diagonal : (i : ℕ) → i < N → x .changeoverMinutes i i ≡ 0
   pub cents-most : (i j : ℕ) → i < N → j < N → x .changeoverCents i j ≤ mostChangeoverCents
   pub cents-diagonal : (i : ℕ) → i < N → x .changeoverCents i i ≡ 0
+  pub mounted-known : (x .mounted < N) ⊎ (x .mounted ≡ nothingMounted)
+  pub shut-before-most : x .shutBefore ≤ 1
 
 pub record PlantRanges (p : Plant) : Type 0 where
   pub products-least : 1 ≤ p .products

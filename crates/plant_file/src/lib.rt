@@ -1,18 +1,20 @@
-// Plant files, kind 1: the rows of refusal, and the numbers of each section.
+// Plant files, kinds 1 and 4: the rows of refusal, and the numbers of each section.
 ghost use mathlib.Core.Path.{_≡_};
-ghost use mathlib.Core.Bool.{true};
+ghost use mathlib.Core.Logic.{_⊎_};
+ghost use mathlib.Core.Bool.{true, cond};
 ghost use Prim.Native.Nat.{_+_, _*_, _/_, _%_, _≤_, _<_};
-ghost use lib.ListN.{length};
-ghost use Rattle.contents.specs.Contents.{sized};
+ghost use lib.ListN.{length, getD};
+ghost use Rattle.contents.specs.Contents.{cell, sized};
 ghost use Rattle.sections.specs.Section.{Holds, Laid};
-ghost use Rattle.sections.specs.Layout.{plantKind, contentsLength};
 ghost use Rattle.sections.specs.declared.Form.the-variants.{Good};
 ghost use Rattle.sections.specs.Limits.{mostRate, mostChangeoverMinutes, mostChangeoverCents, mostDemand, mostUnitCost, mostStorage};
-ghost use Rattle.sections.specs.Limits.{mostOpeningBacklog, mostWeekMinutes};
+ghost use Rattle.sections.specs.Limits.{mostOpeningBacklog, nothingMounted, mostWeekMinutes};
+ghost use Rattle.plant_file.specs.Kinds.{plantKind, hasMounted, contentsOf};
 ghost use Rattle.plant_file.specs.Plant.{plantOf};
 ghost use Rattle.plant_file.specs.Rows.{DemandRow};
-ghost use Rattle.plant_file.specs.Form.{shapeOf, laidOut, inLimits, plantLengths, plantInRange, plantForm};
-ghost use Rattle.plant_file.specs.Form.{lineInRange, marketInRange, storageInRange, openingInRange, timeInRange};
+ghost use Rattle.plant_file.specs.Form.{shapeOf, plantHeaded, laidOut, inLimits, plantLengths, plantInRange, plantForm};
+ghost use Rattle.plant_file.specs.Form.{diagonalsInRange, mountedKnown, mountedInRange, lineInRange, marketInRange, storageInRange};
+ghost use Rattle.plant_file.specs.Form.{openingInRange, timeInRange};
 use contents::cell_in;
 use contents::entry_in;
 use contents::is_headed;
@@ -32,13 +34,9 @@ use sections::pair_number;
 use sections::pair_row;
 use sections::volume;
 
-const KIND: u64 = 1;
-
 const FIRST: u64 = 1;
 
-const SECTIONS: usize = 11;
-
-// The places of sections 1 to 11 in the contents.
+// The places of sections 1 to 12 in the contents.
 const SHAPE: usize = 0;
 
 const RATE: usize = 1;
@@ -60,6 +58,8 @@ const STORAGE: usize = 8;
 const OPENING: usize = 9;
 
 const TIME: usize = 10;
+
+const MOUNTED: usize = 11;
 
 // The limits of rows 3 and 5.
 const MOST_PRODUCTS: u64 = 16;
@@ -84,13 +84,72 @@ const MOST_OPENING_BACKLOG: u64 = 100000000;
 
 const MOST_WEEK_MINUTES: u64 = 10080;
 
+// What section 12 has where no product is mounted.
+pub const NOTHING_MOUNTED: u64 = 255;
+
+// What a kind of plant file has: its number, how many sections from section 1 on, the most grams of opening backlog, and whether the
+// diagonals of sections 3 and 4 may be filled.
+struct PlantKind {
+    number: u64,
+    sections: usize,
+    backlog: u64,
+    diagonals: bool,
+}
+
+// The table of kinds. A byte that is no kind's has what kind 1 has, and row 1 refuses it.
+fn plant_kind(kind: u8) -> PlantKind
+    ensures { λ r. ⌜ r ≡ plantKind kind ⌝ }
+{
+    if kind == 4 {
+        return PlantKind {
+            number: 4,
+            sections: 12,
+            backlog: MOST_OPENING_BACKLOG,
+            diagonals: false,
+        };
+    }
+    PlantKind {
+        number: 1,
+        sections: 11,
+        backlog: MOST_OPENING_BACKLOG,
+        diagonals: false,
+    }
+}
+
+// The kind of a file, by its first byte.
+fn kind_of(s: &[u8]) -> PlantKind
+    ensures { λ r. ⌜ r ≡ plantKind (getD (now (s .entry)) 0 0) ⌝ }
+{
+    if s.len() == 0 {
+        return plant_kind(0);
+    }
+    plant_kind(s[0])
+}
+
+// Whether the kind has section 12.
+fn has_mounted(f: Shape) -> bool
+    ensures { λ r. ⌜ r ≡ hasMounted (f .kind) ⌝ }
+{
+    let k = plant_kind(f.kind);
+    k.sections == 12
+}
+
+// Row 1.
+fn is_plant_headed(s: &[u8]) -> bool
+    ensures { λ r. ⌜ r ≡ plantHeaded (now (s .entry)) ⌝ }
+{
+    let k = kind_of(s);
+    is_headed(s, k.number, FIRST, k.sections)
+}
+
 // Row 2.
 fn is_laid_out(s: &[u8]) -> bool
-    requires { ⌜ contentsLength plantKind ≤ length (now s) ⌝ }
+    requires { ⌜ contentsOf (getD (now s) 0 0) ≤ length (now s) ⌝ }
     ensures { λ r. ⌜ r ≡ laidOut (now (s .entry)) ⌝ }
 {
+    let k = kind_of(s);
     let e = entry_in(s, SHAPE);
-    and(is_placed(s, SECTIONS), e.length == 3)
+    and(is_placed(s, k.sections), e.length == 3)
 }
 
 // Section 1.
@@ -103,6 +162,7 @@ fn shape_of(s: &[u8]) -> Shape
     let b = a + 1;
     let c = a + 2;
     Shape {
+        kind: s[0],
         products: s[a],
         customers: s[b],
         weeks: s[c],
@@ -124,7 +184,7 @@ fn is_in_limits(f: Shape) -> bool
 
 // Row 4.
 fn has_lengths(s: &[u8], f: Shape) -> bool
-    requires { ⌜ contentsLength plantKind ≤ length (now s) ⌝ }
+    requires { ⌜ contentsOf (f .kind) ≤ length (now s) ⌝ }
     ensures { λ r. ⌜ r ≡ sized (now (s .entry)) (plantLengths f) ⌝ }
 {
     let n = wide(f.products);
@@ -144,10 +204,65 @@ fn has_lengths(s: &[u8], f: Shape) -> bool
         4 * n + 4 * cn,
         4,
     ];
-    is_sized(s, &lengths)
+    let sized = is_sized(s, &lengths);
+    if has_mounted(f) {
+        let e = entry_in(s, MOUNTED);
+        return and(sized, e.length == 2);
+    }
+    sized
 }
 
-// Row 5, sections 2 to 4.
+// Row 5, the diagonals of sections 3 and 4.
+fn are_diagonals_in_range(s: &[u8], f: Shape) -> bool
+    requires { ⌜ Laid (now s) (plantLengths f) ⌝ }
+    ensures { λ r. ⌜ r ≡ diagonalsInRange (now (s .entry)) f ⌝ }
+{
+    let k = plant_kind(f.kind);
+    if k.diagonals {
+        return true;
+    }
+    let n = as_usize(f.products);
+    and(
+        diagonal_zero(s, CHANGEOVER_MINUTES, 2, n),
+        diagonal_zero(s, CHANGEOVER_CENTS, 4, n),
+    )
+}
+
+// Number j of section 12, or what a kind without that section reads as.
+fn opening_byte(s: &[u8], f: Shape, j: usize, absent: u64) -> u64
+    requires { ⌜ Laid (now s) (plantLengths f) × (j < 2) ⌝ }
+    ensures { λ r. ⌜ r ≡ cond (hasMounted (f .kind)) (cell 1 (now (s .entry)) 11 j) absent ⌝ }
+{
+    if has_mounted(f) {
+        return cell_in(s, MOUNTED, 1, j);
+    }
+    absent
+}
+
+// Whether a product is the plant's, or stands for none.
+fn is_mounted_known(product: u64, f: Shape) -> bool
+    ensures { λ r. ⌜ r ≡ mountedKnown (f .products) product ⌝ }
+{
+    if product < wide(f.products) {
+        return true;
+    }
+    product == NOTHING_MOUNTED
+}
+
+// Row 5, section 12.
+fn is_mounted_in_range(s: &[u8], f: Shape) -> bool
+    requires { ⌜ Laid (now s) (plantLengths f) ⌝ }
+    ensures { λ r. ⌜ r ≡ mountedInRange (now (s .entry)) f ⌝ }
+{
+    let product = opening_byte(s, f, 0, NOTHING_MOUNTED);
+    let shut_before = opening_byte(s, f, 1, 0);
+    if shut_before <= 1 {
+        return is_mounted_known(product, f);
+    }
+    false
+}
+
+// Row 5, sections 2 to 4 and 12.
 fn is_line_in_range(s: &[u8], f: Shape) -> bool
     requires { ⌜ Laid (now s) (plantLengths f) ⌝ }
     ensures { λ r. ⌜ r ≡ lineInRange (now (s .entry)) f ⌝ }
@@ -159,11 +274,8 @@ fn is_line_in_range(s: &[u8], f: Shape) -> bool
         and(
             in_range(s, CHANGEOVER_MINUTES, 2, 0, nn, 0, MOST_CHANGEOVER_MINUTES),
             and(
-                diagonal_zero(s, CHANGEOVER_MINUTES, 2, n),
-                and(
-                    in_range(s, CHANGEOVER_CENTS, 4, 0, nn, 0, MOST_CHANGEOVER_CENTS),
-                    diagonal_zero(s, CHANGEOVER_CENTS, 4, n),
-                ),
+                in_range(s, CHANGEOVER_CENTS, 4, 0, nn, 0, MOST_CHANGEOVER_CENTS),
+                and(are_diagonals_in_range(s, f), is_mounted_in_range(s, f)),
             ),
         ),
     )
@@ -210,11 +322,12 @@ fn is_opening_in_range(s: &[u8], f: Shape) -> bool
     requires { ⌜ Laid (now s) (plantLengths f) ⌝ }
     ensures { λ r. ⌜ r ≡ openingInRange (now (s .entry)) f ⌝ }
 {
+    let k = plant_kind(f.kind);
     let n = as_usize(f.products);
     let cn = area(f.customers, f.products);
     and(
         in_range(s, OPENING, 4, 0, n, 0, MOST_STORAGE),
-        in_range(s, OPENING, 4, n, cn, 0, MOST_OPENING_BACKLOG),
+        in_range(s, OPENING, 4, n, cn, 0, k.backlog),
     )
 }
 
@@ -249,7 +362,7 @@ fn is_in_range(s: &[u8], f: Shape) -> bool
 pub fn plant_form(s: &[u8]) -> Form
     ensures { λ r. ⌜ r ≡ plantForm (now (s .entry)) ⌝ }
 {
-    if !is_headed(s, KIND, FIRST, SECTIONS) {
+    if !is_plant_headed(s) {
         return Form::Refused(1);
     }
     if !is_laid_out(s) {
@@ -292,6 +405,22 @@ pub fn changeover_cents(s: &[u8], f: Shape, arc: usize) -> u64
     ensures { λ r. ⌜ (r ≡ plantOf f (now (s .entry)) .line .changeoverCents (arc / f .products) (arc % f .products)) × (r ≤ mostChangeoverCents) ⌝ }
 {
     cell_in(s, CHANGEOVER_CENTS, 4, arc)
+}
+
+// The product that is mounted before the first week, or `NOTHING_MOUNTED`.
+pub fn mounted(s: &[u8], f: Shape) -> u64
+    requires { ⌜ plantForm (now s) ≡ Good f ⌝ }
+    ensures { λ r. ⌜ (r ≡ plantOf f (now (s .entry)) .line .mounted) × ((r < f .products) ⊎ (r ≡ nothingMounted)) ⌝ }
+{
+    opening_byte(s, f, 0, NOTHING_MOUNTED)
+}
+
+// 1 if the week before the first was shut, else 0.
+pub fn shut_before(s: &[u8], f: Shape) -> u64
+    requires { ⌜ plantForm (now s) ≡ Good f ⌝ }
+    ensures { λ r. ⌜ (r ≡ plantOf f (now (s .entry)) .line .shutBefore) × (r ≤ 1) ⌝ }
+{
+    opening_byte(s, f, 1, 0)
 }
 
 // Cents a kilogram and week that inventory costs.

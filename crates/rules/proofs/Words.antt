@@ -7,15 +7,19 @@ use native.Mathlib.Omega.{arith}
 use native.Mathlib.Nat.{mul-one}
 use lib.Dec.{eqb}
 use borrow.Author.Tests.{eqb-true, eq-eqb}
-use Rattle.mathematics.specs.Below.{sumBelow, allBelow}
+use Rattle.mathematics.specs.Below.{sumBelow, allBelow, is}
 use Rattle.mathematics.specs.Week.{oneEach, shut, rule31}
-use Rattle.mathematics.proofs.Below.{sum-zero, term-le-sum, and-both, both-and, all-each}
+use Rattle.mathematics.proofs.Below.{sum-zero, sum-is, term-le-sum, and-both, both-and, all-each}
 use Rattle.mathematics.proofs.Sums.{all-equal, equal-all}
 use Rattle.mathematics.proofs.Tables.{all-ext, all-grid, grid-all}
 use Rattle.mathematics.proofs.WeekRules.{facts31, shut-facts, once-or-shut}
 use Rattle.plant_file.specs.Plant.{LinePlant, Plant}
+use Rattle.plant_file.specs.Ranges.{LineRanges}
 use Rattle.plan_file.specs.Plan.{LinePlan, Plan}
-use Rattle.costs.specs.Mounted.{openingMounted}
+use Rattle.costs.specs.declared.Mounted.{Mounted}
+use Rattle.costs.specs.declared.Mounted.the-variants.{Nothing, Product}
+use Rattle.costs.specs.Mounted.{isMounted, mountedBelow, openingMounted}
+use Rattle.costs.proofs.Changeovers.{opening-below}
 use Rattle.rules.specs.Rules.{weekOf, productionEnd, mountedAfter, mountedBefore, rule33}
 use Rattle.rules.specs.Verdict.{trials, tried, verdictOf}
 use Rattle.rules.specs.Words.{noPassage, passageFrom, passageWords, words33, verdictInWords}
@@ -70,40 +74,55 @@ module _ (N : ℕ) (line : LinePlant) (x : LinePlan) (w : ℕ) where
       (λ j m. let z : x .first w j ≡ 0 = omega (arith, none, term-le-sum N (x .first w) j m) in rw z (omega arith))
       (λ i l. rw none (omega arith))
 
-  opening-words : productionEnd N x w ≡ 0 → rule33 N line x w ≡ noPassage N x w
-  unfolding mountedBefore mountedAfter openingMounted
-  opening-words e =
-      let nothing : (i : ℕ) → mountedBefore N line x w i ≡ 0 = λ i. ap (λ (n : ℕ). mountedAfter line x n i) e in
+  nothing-words : ((i : ℕ) → mountedBefore N line x w i ≡ 0) → rule33 N line x w ≡ noPassage N x w
+  nothing-words nothing =
       none-words
       (λ j m. rw (sum-zero N (mountedBefore N line x w) (λ i l. nothing i)) (omega arith))
       (λ i l. rw (nothing i) (omega arith))
 
-  from-words : (v : ℕ) → productionEnd N x w ≡ suc v → sumBelow N (x .first w) ≡ 1 → sumBelow N (x .last v) ≡ 1 → rule33 N line x w ≡ passageFrom N x v w
-  unfolding rule33 mountedBefore mountedAfter
-  from-words v e a b =
-      ap (λ (n : ℕ). allBelow N (λ j. eqb (sumBelow N (λ i. x .weekChangeover w i j)) (x .first w j * sumBelow N (mountedAfter line x n)))
-      && allBelow N (λ i. eqb (sumBelow N (λ j. x .weekChangeover w i j)) (mountedAfter line x n i * sumBelow N (x .first w)))) e
+  -- one first product, and one that is mounted before
+  from-words : (from : ℕ → ℕ) → ((i : ℕ) → mountedBefore N line x w i ≡ from i) → sumBelow N (x .first w) ≡ 1 → sumBelow N from ≡ 1
+      → rule33 N line x w ≡ passageFrom N x from w
+  unfolding rule33
+  from-words from e a b =
+      (λ u.
+      allBelow N (λ j. eqb (sumBelow N (λ i. x .weekChangeover w i j)) (x .first w j * sumBelow N (λ i. e i u)))
+      && allBelow N (λ i. eqb (sumBelow N (λ j. x .weekChangeover w i j)) (e i u * sumBelow N (x .first w))))
       ∙ (λ u.
       allBelow N (λ j. eqb (sumBelow N (λ i. x .weekChangeover w i j)) ((ap (λ (n : ℕ). x .first w j * n) b ∙ mul-one (x .first w j)) u))
-      && allBelow N (λ i. eqb (sumBelow N (λ j. x .weekChangeover w i j)) ((ap (λ (n : ℕ). x .last v i * n) a ∙ mul-one (x .last v i)) u)))
+      && allBelow N (λ i. eqb (sumBelow N (λ j. x .weekChangeover w i j)) ((ap (λ (n : ℕ). from i * n) a ∙ mul-one (from i)) u)))
+
+  -- what is mounted before the week: a later week's last product, or what the line begins with
+  after-end : (n : ℕ) → productionEnd N x w ≡ n → (i : ℕ) → mountedBefore N line x w i ≡ mountedAfter line x n i
+  unfolding mountedBefore
+  after-end n e i = ap (λ (k : ℕ). mountedAfter line x k i) e
+
+  at-opening : (m : Mounted) → openingMounted line ≡ m → productionEnd N x w ≡ 0 → (i : ℕ) → mountedBefore N line x w i ≡ isMounted m i
+  unfolding mountedAfter
+  at-opening m o e i = after-end 0 e i ∙ ap (λ (k : Mounted). isMounted k i) o
 
   -- behind rule 31
-  pub words-33 : ((v : ℕ) → v ≤ w → rule31 N (weekOf x v) ≡ true) → rule33 N line x w ≡ words33 N x w
-  words-33 r = go (shut N (weekOf x w)) refl (productionEnd N x w) refl
+  pub words-33 : mountedBelow N (openingMounted line) → ((v : ℕ) → v ≤ w → rule31 N (weekOf x v) ≡ true) → rule33 N line x w ≡ words33 N line x w
+  unfolding mountedAfter
+  words-33 below r = go (shut N (weekOf x w)) refl (productionEnd N x w) refl (openingMounted line) refl below
     where
-      go : (t : Bool) → shut N (weekOf x w) ≡ t → (n : ℕ) → productionEnd N x w ≡ n → rule33 N line x w ≡ passageWords N x w t n
-      go true s n e = shut-words s
-      go false s zero e = opening-words e
-      go false s (suc v) e =
+      go : (t : Bool) → shut N (weekOf x w) ≡ t → (n : ℕ) → productionEnd N x w ≡ n → (m : Mounted) → openingMounted line ≡ m → mountedBelow N m
+          → rule33 N line x w ≡ passageWords N x w t n m
+      go true s n e m o b = shut-words s
+      go false s zero e Nothing o b = nothing-words (at-opening Nothing o e)
+      go false s zero e (Product p) o b =
+          from-words (is p) (at-opening (Product p) o e) (producing N x w (r w (omega arith)) s .0) (sum-is N p b)
+      go false s (suc v) e m o b =
           let earlier = end-produces N x w v e in
-          from-words v e (producing N x w (r w (omega arith)) s .0) (producing N x v (r v (omega (arith, earlier .0))) (earlier .1) .1)
+          from-words (x .last v) (after-end (suc v) e) (producing N x w (r w (omega arith)) s .0)
+          (producing N x v (r v (omega (arith, earlier .0))) (earlier .1) .1)
 
 -- the verdict is the same for every plan
-pub same-verdict : (P : Plant) (x : Plan) → verdictOf P x ≡ verdictInWords P x
+pub same-verdict : (P : Plant) → LineRanges (P .products) (P .line) → (x : Plan) → verdictOf P x ≡ verdictInWords P x
 unfolding verdictOf verdictInWords trials tried
-same-verdict P x = go (allBelow (P .weeks) (λ w. rule31 (P .products) (weekOf (x .line) w))) refl
+same-verdict P R x = go (allBelow (P .weeks) (λ w. rule31 (P .products) (weekOf (x .line) w))) refl
   where
     go : (t : Bool) → allBelow (P .weeks) (λ w. rule31 (P .products) (weekOf (x .line) w)) ≡ t → verdictOf P x ≡ verdictInWords P x
-    go true e = rw (all-ext (P .weeks) (rule33 (P .products) (P .line) (x .line)) (words33 (P .products) (x .line))
-        (λ w l. words-33 (P .products) (P .line) (x .line) w (λ v h. all-each (P .weeks) _ e v (omega arith))))
+    go true e = rw (all-ext (P .weeks) (rule33 (P .products) (P .line) (x .line)) (words33 (P .products) (P .line) (x .line))
+        (λ w l. words-33 (P .products) (P .line) (x .line) w (opening-below (P .products) (P .line) R) (λ v h. all-each (P .weeks) _ e v (omega arith))))
     go false e = rw e

@@ -27,7 +27,8 @@ unfoldable pub mountedAfter : LinePlant → LinePlan → ℕ → ℕ → ℕ
 mountedAfter l x zero i = isMounted (openingMounted l) i
 mountedAfter l x (suc w) i = x .last w i
 
--- what is mounted on the line before week w: "the last product of the last producing week, if there was one"
+-- what is mounted on the line before week w: "the last product of the last producing week, if there was one", else what the plant has mounted
+-- (request 2026-02)
 unfoldable pub mountedBefore : ℕ → LinePlant → LinePlan → ℕ → ℕ → ℕ
 mountedBefore N l x w = mountedAfter l x (productionEnd N x w)
 

@@ -1,4 +1,5 @@
--- The kinds of file and the layout of a section, as paper 01 has them under "Files". Assumes nothing.
+-- The kinds of plan and slot files, and the layout of a section, as paper 01 has them under "Files". The kinds of plant files stand in
+-- `plant_file/specs/Kinds`. Assumes nothing.
 use Prim.Native.Nat.{ℕ, _+_, _*_}
 use mathlib.Core.List.{List, map}
 use Rattle.sections.specs.declared.Layout.{Layout}
@@ -8,10 +9,6 @@ pub record Kind : Type 0 where
   pub number : ℕ
   pub first : ℕ
   pub sections : ℕ
-
--- plants: kind 1, sections 1 to 11
-abbrev pub plantKind : Kind
-plantKind = record { number = 1; first = 1; sections = 11 }
 
 -- plans: kind 2, sections 21 to 32
 abbrev pub planKind : Kind

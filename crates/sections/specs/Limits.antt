@@ -38,6 +38,10 @@ mostStorage = 4000000000
 abbrev pub mostOpeningBacklog : ℕ
 mostOpeningBacklog = 100000000
 
+-- "255 for none": no product is mounted before the first week (request 2026-02)
+abbrev pub nothingMounted : ℕ
+nothingMounted = 255
+
 -- minutes
 abbrev pub mostWeekMinutes : ℕ
 mostWeekMinutes = 10080

@@ -14,8 +14,9 @@ use numbers::inside;
 use numbers::read;
 use numbers::read4;
 
-// N, C and W of a plant: its counts of products, customers and weeks.
+// The kind of a plant file, and its N, C and W: the counts of products, customers and weeks.
 pub struct Shape {
+    pub kind: u8,
     pub products: u8,
     pub customers: u8,
     pub weeks: u8,

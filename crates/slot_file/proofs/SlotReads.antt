@@ -64,7 +64,7 @@ module _ (f g : Shape) (s : List ℕ) (e : slotForm f s ≡ Good g) where
 -- slot j of all lies within the file
 pub slot-inside : (f : Shape) (s : List ℕ) → slotForm f s ≡ Good f → (j : ℕ) → j < slotsBefore s (f .weeks)
     → (29 ≤ length s) × (offset s 1 + 3 * j + 3 ≤ length s)
-slot-inside f s e j l = let z = slot-good f f s e .laid in (z .long, omega (arith, slots-held _ _ _ z))
+slot-inside f s e j l = let z = slot-good f f s e .laid in (z .long, omega (arith, slots-held f _ _ z))
 
 -- the slots of a week
 pub week-list : (f : Shape) (s : List ℕ) (w : ℕ) → slotsOf f s .line .week w ≡ listBelow (slotCount s w) (λ k. slotAt s (slotsBefore s w + k))

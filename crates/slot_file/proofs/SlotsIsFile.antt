@@ -43,7 +43,7 @@ module _ (f : Shape) (s : List ℕ) (b : Bytes s) (e : slotForm f s ≡ Good f) 
   unfolding slotCount
   counts-body =
       encode-ext 1 (f .weeks) _ (cell 1 s 0) (λ w l. week-length f s w)
-      ∙ section-is 1 (f .weeks) s 0 b (counts-held _ _ _ (good .laid)) (laid-extent (good .laid) 0 (omega arith) ∙ sym (one-row 1 (f .weeks)))
+      ∙ section-is 1 (f .weeks) s 0 b (counts-held f _ _ (good .laid)) (laid-extent (good .laid) 0 (omega arith) ∙ sym (one-row 1 (f .weeks)))
 
   -- a week's slots, off all
   week-bytes : (w : ℕ) → slotBytes (slotsOf f s .line .week w) ≡ joinBelow (slotCount s w) (λ k. digits 3 (cell 3 s 1 (slotsBefore s w + k)))
@@ -57,14 +57,14 @@ module _ (f : Shape) (s : List ℕ) (b : Bytes s) (e : slotForm f s ≡ Good f) 
   slots-body =
       join-ext (f .weeks) _ _ (λ w l. week-bytes w)
       ∙ (join-runs (f .weeks) (slotCount s) (λ j. digits 3 (cell 3 s 1 j))
-      ∙ (encode-numbers 3 (slotsBefore s (f .weeks)) s (offset s 1) b (slots-held _ _ _ (good .laid))
+      ∙ (encode-numbers 3 (slotsBefore s (f .weeks)) s (offset s 1) b (slots-held f _ _ (good .laid))
       ∙ ap (part s (offset s 1)) (sym (laid-extent (good .laid) 1 (omega arith) ∙ sym (one-row 3 (slotsBefore s (f .weeks)))))))
 
   sales-body : cube 4 (f .customers) (f .products) (f .weeks) (slotsOf f s .sales) ≡ part s (offset s 2) (extent s 2)
   unfolding slotsOf
   sales-body =
       cube-flat 4 (f .customers) (f .products) (f .weeks) (cell 4 s 2)
-      ∙ section-is 4 (f .customers * f .products * f .weeks) s 2 b (sales-held _ _ _ (good .laid)) (laid-extent (good .laid) 2 (omega arith))
+      ∙ section-is 4 (f .customers * f .products * f .weeks) s 2 b (sales-held f _ _ (good .laid)) (laid-extent (good .laid) 2 (omega arith))
 
   bodies : (i : ℕ) → i < 3 → getD (slotBodies f (slotsOf f s)) i [] ≡ part s (offset s i) (extent s i)
   unfolding slotBodies

@@ -7,6 +7,9 @@ use super::amounts::{
     change_sale_with_both, change_sale_with_inventory, other, wrap_balance,
     wrap_sales_with_backlog,
 };
+use super::mounted::{
+    change_first_cost, change_first_opening, mount_other, open_bare_line, overrun_first_week,
+};
 use super::orders::{
     change_place, double_first_or_last, make_ring, make_self_ring, mark_opening, move_first,
     move_last, move_opening, shuffle_places,
@@ -22,7 +25,7 @@ use crate::model::{Plan, Plant, Slot, Slots};
 use crate::random::Random;
 
 /// Changes after which a plan breaks a rule, or is another plan.
-pub const PLAN_CHANGES: [PlanChange; 49] = [
+pub const PLAN_CHANGES: [PlanChange; 57] = [
     change_one_number,
     change_one_number,
     change_one_number,
@@ -72,6 +75,14 @@ pub const PLAN_CHANGES: [PlanChange; 49] = [
     change_opening_after_shut_week,
     clear_week,
     clear_week,
+    change_first_opening,
+    change_first_opening,
+    open_bare_line,
+    change_first_cost,
+    change_first_cost,
+    mount_other,
+    overrun_first_week,
+    overrun_first_week,
 ];
 
 fn change_one_number(random: &mut Random, _: &mut Plant, _: &Slots, plan: &mut Plan) {

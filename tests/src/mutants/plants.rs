@@ -1,16 +1,18 @@
 //! Changes to plants: numbers out of their ranges, other sizes, and other numbers
 //! within the ranges.
 
+use super::mounted::{change_line, exceed_line};
 use super::PlantChange;
 use crate::model::{Plant, Sizes, Storage};
 use crate::random::Random;
 
 /// Changes after which a number of the plant is out of its range.
-pub const PLANT_CHANGES: [PlantChange; 4] =
-    [exceed_range, exceed_range, change_sizes, break_diagonal];
+pub const PLANT_CHANGES: [PlantChange; 5] =
+    [exceed_range, exceed_range, exceed_line, change_sizes, break_diagonal];
 
 /// Changes to the plant under a plan or slots, all within the ranges.
-pub const GROUND_CHANGES: [PlantChange; 3] = [change_ground, tighten_week, tighten_shortest];
+pub const GROUND_CHANGES: [PlantChange; 4] =
+    [change_ground, change_line, tighten_week, tighten_shortest];
 
 /// The tables of a plant with the range of their numbers.
 fn plant_tables(plant: &mut Plant) -> [(&mut [u32], u32, u32); 8] {

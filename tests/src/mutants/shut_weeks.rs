@@ -46,7 +46,7 @@ fn without_week(slots: &Slots, week: usize) -> Slots {
 }
 
 /// A week's product with this mark, if there is one.
-fn marked(sizes: Sizes, marks: &[u8], week: usize) -> Option<usize> {
+pub(super) fn marked(sizes: Sizes, marks: &[u8], week: usize) -> Option<usize> {
     (0..sizes.products).find(|&product| marks[sizes.week_product(week, product)] == 1)
 }
 
@@ -184,7 +184,7 @@ pub(super) fn clear_week(random: &mut Random, plant: &mut Plant, _: &Slots, plan
         return;
     };
     let before = (0..week).rev().find(|&earlier| is_producing(plan, earlier));
-    let mounted = before.and_then(|before| marked(sizes, &plan.last, before));
+    let mounted = before.map_or(plant.mounted(), |before| marked(sizes, &plan.last, before));
     let (row, square) = (sizes.week_row(week), sizes.week_square(week));
 
     let is_whole = !random.one_in(4);

@@ -1,5 +1,6 @@
 //! Changes to slots and sales, after which a run stops or runs otherwise.
 
+use super::mounted::fill_first_week;
 use super::SlotsChange;
 use crate::following;
 use crate::model::{Plant, Slot, Slots};
@@ -7,12 +8,14 @@ use crate::random::Random;
 
 /// Changes after which a run stops, or runs otherwise. All leave the slots with
 /// products of the plant.
-pub const SLOTS_CHANGES: [SlotsChange; 19] = [
+pub const SLOTS_CHANGES: [SlotsChange; 21] = [
     repeat_product,
     repeat_product,
     shorten_run,
     fill_week,
     exceed_week,
+    fill_first_week,
+    fill_first_week,
     change_minutes,
     sell_unasked,
     sell_unasked,
@@ -65,9 +68,22 @@ fn shorten_run(random: &mut Random, plant: &mut Plant, slots: &mut Slots) {
 
 /// Lets the minutes of one slot end its week exactly, or pass its end by `over`.
 pub(super) fn end_week(random: &mut Random, plant: &Plant, slots: &mut Slots, over: u64) {
+    if let Some(week) = producing_week(random, &slots.rows()) {
+        end_this_week(random, plant, slots, week, over);
+    }
+}
+
+/// The same of one producing week.
+pub(super) fn end_this_week(
+    random: &mut Random,
+    plant: &Plant,
+    slots: &mut Slots,
+    week: usize,
+    over: u64,
+) {
     let mut rows = slots.rows();
-    let Some(week) = producing_week(random, &rows) else { return };
-    let mut mounted = rows[..week].iter().flatten().last().map(|slot| usize::from(slot.product));
+    let last_before = rows[..week].iter().flatten().last();
+    let mut mounted = last_before.map_or(plant.mounted(), |slot| Some(slot.product.into()));
     let mut clock = 0;
     for slot in &rows[week] {
         let product = usize::from(slot.product);

@@ -1,16 +1,23 @@
 -- `plant_file::has_lengths` meets its contract. Assumes nothing.
 use borrow.Author.Needs.{needs}
+use borrow.Author.Tests.{eqb-true}
 use native.Mathlib.Omega.{arith}
 use Prim.Native.Nat.{_+_, _*_}
-use mathlib.Core.Path.{_≡_, ap, _∙_}
+use mathlib.Core.Path.{_≡_, sym, ap, _∙_}
 use mathlib.Core.List.{[], _∷_}
 use Rattle.contents.specs.Contents.{sized}
-use mathlib.Core.Path.{_≡_}
+use Rattle.contents.specs.declared.Entry.{Entry}
+use Rattle.sections.specs.Layout.{lengthsOf}
+use Rattle.plant_file.specs.Kinds.{plantKind, hasMounted}
+use Rattle.plant_file.specs.Form.{layoutBefore}
+use Rattle.plant_file.proofs.PlantKinds.{kind-sections}
 use Rattle.plant_file.proofs.has_lengths.Statement.{statement}
 use Rattle.plant_file.proofs.has_lengths.Tie as tie
 
-returns : tie.Need-returns
-returns c =
+-- sections 1 to 11
+eleven : (c : tie.After-is-sized) → let s = c .before .before .before .before .before .before .before .args in
+    c .is-sized .result ≡ sized (s .s .now) (lengthsOf (layoutBefore (s .f) []))
+eleven c =
     let d = c .before .before in
     let s = d .before .before .before .before .before in
     let a = s .args in
@@ -38,11 +45,34 @@ returns c =
     ∷ 4
     ∷ [])
 
+-- section 12 is listed where the kind has it
+entry-in-requires : tie.Need-entry-in-requires
+unfolding hasMounted
+entry-in-requires c κs =
+    let s = c .before .before .before .before .before .before .before .before .before in
+    let twelve = eqb-true (plantKind (s .args .f .kind) .sections) 12 (sym (c .before .has-mounted .ensures) ∙ c .if1 .taken) in
+    (omega arith, omega (arith, s .pre, twelve))
+
+returns : tie.Need-returns
+unfolding sized
+returns c =
+    let first = eleven (c .before .before .before .before .before) in
+    let e = ap (λ (x : Entry). x .length) (c .before .before .entry-in .ensures .0) in
+    rw (sym (c .before .before .before .before .has-mounted .ensures) ∙ c .before .before .before .if1 .taken) (cc)
+
+returns-2 : tie.Need-returns-2
+returns-2 c = rw (sym (c .before .has-mounted .ensures) ∙ c .if1 .left) (eleven (c .before .before))
+
 pub has-lengths-spec : {M : Type 1} → statement M
 has-lengths-spec =
     tie.close
     (tie.spec
     (λ c κs. search needs) (λ c κs. search needs) (λ c κs. search needs) (λ c κs. search needs) (λ c. search needs) (λ c. search needs)
     (λ c. search needs) (λ c. search needs) (λ c. search needs) (λ c. search needs) (λ c. search needs) (λ c. search needs) (λ c. search needs)
-    (λ c. search needs) (λ c. search needs) (λ c. search needs) (λ c κs. search needs)
-    returns)
+    (λ c. search needs) (λ c. search needs) (λ c. search needs)
+    (λ c κs. (omega (arith, kind-sections (c .before .before .before .before .before .before .args .f .kind) .0, c .before .before .before .before .before .before .pre), omega arith))
+    (λ c κs. search needs)
+    entry-in-requires
+    (λ c κs. search needs)
+    returns
+    returns-2)

@@ -12,18 +12,8 @@ in-range-requires c κs = laid-holds (c .before .before .before .pre) 1 (search 
 in-range-requires-2 : tie.Need-in-range-requires-2
 in-range-requires-2 c κs = laid-holds (c .before .before .before .before .pre) 2 (search needs) 2 _ width2 (omega arith)
 
-diagonal-zero-requires : tie.Need-diagonal-zero-requires
-diagonal-zero-requires c κs =
-    let z = c .before .before .before .before .before .pre in
-    (rw (c .before .before .before .as-usize .ensures .0) (laid-holds z 2 (search needs) 2 _ width2 (omega arith)), search needs)
-
 in-range-requires-3 : tie.Need-in-range-requires-3
-in-range-requires-3 c κs = laid-holds (c .before .before .before .before .before .before .pre) 3 (search needs) 4 _ width4 (omega arith)
-
-diagonal-zero-requires-2 : tie.Need-diagonal-zero-requires-2
-diagonal-zero-requires-2 c κs =
-    let z = c .before .before .before .before .before .before .before .pre in
-    (rw (c .before .before .before .before .before .as-usize .ensures .0) (laid-holds z 3 (search needs) 4 _ width4 (omega arith)), search needs)
+in-range-requires-3 c κs = laid-holds (c .before .before .before .before .before .pre) 3 (search needs) 4 _ width4 (omega arith)
 
 returns : tie.Need-returns
 unfolding lineInRange
@@ -36,8 +26,6 @@ is-line-in-range-spec =
     (λ c κs. search needs) (λ c κs. search needs)
     in-range-requires
     in-range-requires-2
-    diagonal-zero-requires
     in-range-requires-3
-    diagonal-zero-requires-2
-    (λ c κs. search needs) (λ c κs. search needs) (λ c κs. search needs) (λ c κs. search needs)
+    (λ c κs. search needs) (λ c κs. search needs) (λ c κs. search needs) (λ c κs. search needs) (λ c κs. search needs) (λ c κs. search needs)
     returns)

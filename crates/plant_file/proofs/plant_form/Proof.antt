@@ -1,22 +1,27 @@
 -- `plant_file::plant_form` meets its contract: at each place it is known which rows the file has passed. Assumes nothing.
 use borrow.Author.Needs.{needs}
 use borrow.Author.Tests.{not-true, not-false}
-use mathlib.Core.Path.{_≡_, sym, _∙_}
+use mathlib.Core.Path.{_≡_, sym, ap, _∙_}
 use mathlib.Core.Bool.{true}
-use Rattle.contents.specs.Contents.{headed, sized}
+use lib.ListN.{getD}
+use Rattle.contents.specs.Contents.{sized}
 use Rattle.sections.specs.Rows.{row}
+use Rattle.sections.specs.declared.Shape.{Shape}
 use Rattle.sections.specs.declared.Form.the-variants.{Good}
-use Rattle.plant_file.specs.Form.{laidOut, inLimits, plantLengths, plantInRange, plantForm}
-use Rattle.plant_file.proofs.PlantReads.{plant-long, shape-holds, plant-laid}
+use Rattle.plant_file.specs.Form.{plantHeaded, laidOut, inLimits, plantLengths, plantInRange, plantForm}
+use Rattle.plant_file.proofs.PlantReads.{plant-long, shape-holds, shape-kind, plant-laid}
 use Rattle.plant_file.proofs.plant_form.Statement.{statement}
 use Rattle.plant_file.proofs.plant_form.Tie as tie
 
 -- the rows passed
-row1 : (c : tie.Else1) → headed (c .before .before .before .args .s .now) 1 1 11 ≡ true
-row1 c = sym (c .before .is-headed .ensures) ∙ not-false _ (c .if1 .left)
+row1 : (c : tie.Else1) → plantHeaded (c .before .before .before .args .s .now) ≡ true
+row1 c = sym (c .before .is-plant-headed .ensures) ∙ not-false _ (c .if1 .left)
 
 row2 : (c : tie.Else2) → laidOut (c .before .before .before .before .before .args .s .now) ≡ true
 row2 c = sym (c .before .is-laid-out .ensures) ∙ not-false _ (c .if2 .left)
+
+kind-is : (c : tie.After-shape-of) → getD (c .before .before .before .before .before .before .args .s .now) 0 0 ≡ c .shape-of .result .kind
+kind-is c = sym (ap (λ (x : Shape). x .kind) (c .shape-of .ensures) ∙ shape-kind (c .before .before .before .before .before .before .args .s .now))
 
 row3 : (c : tie.Else3) → inLimits (c .before .before .shape-of .result) ≡ true
 row3 c = sym (c .before .is-in-limits .ensures) ∙ not-false _ (c .if3 .left)
@@ -28,7 +33,7 @@ row4 c = sym (c .before .has-lengths .ensures) ∙ not-false _ (c .if4 .left)
 
 returns : tie.Need-returns
 unfolding plantForm
-returns c = rw (sym (c .before .is-headed .ensures) ∙ not-true _ (c .if1 .taken))
+returns c = rw (sym (c .before .is-plant-headed .ensures) ∙ not-true _ (c .if1 .taken))
 
 returns-2 : tie.Need-returns-2
 unfolding plantForm
@@ -77,8 +82,8 @@ plant-form-spec =
     (λ c κs. shape-holds _ (row1 (c .before .before)) (row2 c))
     (λ c κs. search needs)
     returns-3
-    (λ c κs. plant-long _ (row1 (c .before .before .before .before .before)))
+    (λ c κs. rw (kind-is (c .before .before)) at (plant-long _ (row1 (c .before .before .before .before .before))))
     returns-4
-    (λ c κs. plant-laid _ _ (row1 (c .before .before .before .before .before .before .before)) (row2 (c .before .before .before .before .before)) (row4 c))
+    (λ c κs. plant-laid _ _ (kind-is (c .before .before .before .before)) (row1 (c .before .before .before .before .before .before .before)) (row2 (c .before .before .before .before .before)) (row4 c))
     returns-5
     returns-6)

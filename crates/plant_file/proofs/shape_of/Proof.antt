@@ -4,6 +4,7 @@ use native.Mathlib.Omega.{arith}
 use native.Mathlib.Nat.{add-zero}
 use mathlib.Core.Path.{_≡_, sym, ap, _∙_}
 use Prim.Native.Nat.{ℕ, _+_}
+use lib.ListN.{getD}
 use Rattle.contents.specs.Contents.{offset}
 use Rattle.contents.specs.declared.Entry.{Entry}
 use Rattle.plant_file.specs.Form.{shapeOf}
@@ -17,9 +18,10 @@ starts c = ap (λ (x : Entry). x .offset) (c .entry-in .ensures .0)
 returns : tie.Need-returns
 unfolding shapeOf
 returns c =
-    let e = starts (c .before .before .before) in
-    let s = c .before .before .before .before .before .args .s .now in
+    let e = starts (c .before .before .before .before) in
+    let s = c .before .before .before .before .before .before .args .s .now in
     λ u. record {
+      kind = getD s 0 0;
       products = byte-cell s 0 0 _ (e ∙ sym (add-zero (offset s 0))) u;
       customers = byte-cell s 0 1 _ (ap (λ (x : ℕ). x + 1) e) u;
       weeks = byte-cell s 0 2 _ (ap (λ (x : ℕ). x + 2) e) u;
@@ -30,7 +32,8 @@ shape-of-spec =
     tie.close
     (tie.spec
     (λ c κs. search needs) (λ c. search needs) (λ c. search needs)
-    (λ c. omega (arith, starts (c .before), c .before .before .before .pre .fits))
+    (λ c. omega (arith, c .before .before .before .pre .listed))
     (λ c. omega (arith, starts (c .before .before), c .before .before .before .before .pre .fits))
     (λ c. omega (arith, starts (c .before .before .before), c .before .before .before .before .before .pre .fits))
+    (λ c. omega (arith, starts (c .before .before .before .before), c .before .before .before .before .before .before .pre .fits))
     returns)

@@ -3,7 +3,7 @@ use borrow.Author.Needs.{needs}
 use native.Mathlib.Omega.{arith}
 use mathlib.Core.Path.{_≡_, refl, ap, _∙_}
 use mathlib.Core.List.{List, [], _∷_, _++_}
-use Prim.Native.Nat.{ℕ, _+_, _*_, _-_, _<_, _≤_}
+use Prim.Native.Nat.{ℕ, _+_, _*_, _-_, _<_, _≤_, _^_}
 use lib.ListN.{length, length-append}
 use Rattle.costs.specs.declared.Mounted.the-variants.{Product}
 use Rattle.costs.specs.Mounted.{mountedBelow}
@@ -74,6 +74,13 @@ product-number c =
     let s = start d in
     omega (arith, known (d .before .before), few (s .args .plant .now) (s .args .f) (s .pre .0 .plant-good) .0)
 
+-- the clock has room
+end-fits : (c : tie.After-changeover-to Inv-loop μ-loop)
+    → turn c .loop .clock + c .changeover-to .result .minutes .0 + c .before .minutes .result < 2 ^ 64
+end-fits c =
+    let s = start c in
+    omega (arith, c .changeover-to .ensures .minutes-most, few (s .args .plant .now) (s .args .f) (s .pre .0 .plant-good) .0)
+
 week-number : tie.Need-add-write-line Inv-loop μ-loop
 week-number c =
     let s = start (c .before) in
@@ -117,7 +124,7 @@ write-week-spec =
     (λ c κs. search needs)
     (λ c κs. (search needs, search needs, known c))
     (λ c κs. (search needs, c .before .before .before .loop .inv .1, known (c .before)))
-    (λ c. search needs) (λ c. search needs)
+    (λ c. omega (arith, end-fits c)) (λ c. omega (arith, end-fits c))
     week-number
     write-line-requires
     product-number

@@ -15,7 +15,7 @@ use Rattle.slot_file.proofs.has_lengths.Tie as tie
 returns : tie.Need-returns
 returns c =
     let e = ap (λ (x : Entry). x .length) (c .before .before .before .entry-in .ensures .0) in
-    sym (week-bytes _ _ _ (λ d. c .if1 .taken (omega arith)))
+    sym (week-bytes (c .before .before .before .before .before .args .f) _ _ (λ d. c .if1 .taken (omega arith)))
 
 slots-before-requires : tie.Need-slots-before-requires
 slots-before-requires c κs =
@@ -29,7 +29,8 @@ returns-2 c =
     let lengths = c .before .before .lengths-of .ensures .0 in
     let total = c .before .before .before .slots-before .ensures .0 in
     let weeks = c .before .before .before .before .as-usize .ensures .0 in
-    c .is-sized .ensures ∙ ap (sized _) (lengths ∙ ap (slotLengths _) (total ∙ ap (slotsBefore _) weeks))
+    let f = c .before .before .before .before .before .before .before .before .before .before .args .f in
+    c .is-sized .ensures ∙ ap (sized _) (lengths ∙ ap (slotLengths f) (total ∙ ap (slotsBefore _) weeks))
 
 pub has-lengths-spec : {M : Type 1} → statement M
 has-lengths-spec =

@@ -7,16 +7,16 @@ use Rattle.slot_file.proofs.is_in_range.Statement.{statement}
 use Rattle.slot_file.proofs.is_in_range.Tie as tie
 
 slots-before-requires : tie.Need-slots-before-requires
-slots-before-requires c κs = (rw (c .as-usize .ensures .0) (counts-held _ _ _ (c .before .before .pre)), search needs)
+slots-before-requires c κs = (rw (c .as-usize .ensures .0) (counts-held (c .before .before .args .f) _ _ (c .before .before .pre)), search needs)
 
 in-range-requires : tie.Need-in-range-requires
-in-range-requires c κs = rw (zero-add, c .before .before .as-usize .ensures .0) (counts-held _ _ _ (c .before .before .before .before .pre))
+in-range-requires c κs = rw (zero-add, c .before .before .as-usize .ensures .0) (counts-held (c .before .before .before .before .args .f) _ _ (c .before .before .before .before .pre))
 
 has-products-requires : tie.Need-has-products-requires
 has-products-requires c κs =
     let z = c .before .before .before .before .before .pre in
     let total = c .before .before .slots-before .ensures .0 in
-    (z .long, rw (total, c .before .before .before .as-usize .ensures .0) (slots-held _ _ _ z))
+    (z .long, rw (total, c .before .before .before .as-usize .ensures .0) (slots-held (c .before .before .before .before .before .args .f) _ _ z))
 
 returns : tie.Need-returns
 unfolding slotsInRange

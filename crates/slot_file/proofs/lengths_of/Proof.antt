@@ -15,7 +15,7 @@ returns c =
     let v = c .before .volume .ensures in
     let a = c .before .before .args in
     let weeks : c .wide .result ≡ 1 * (1 * a .f .weeks) = omega (arith, w .0) in
-    ((λ u. weeks u ∷ one-row 3 (a .total) u ∷ (4 * v .0 u) ∷ []), slot-listable _ _ (c .before .before .pre) (rw (w .0) at (w .1)) (rw (v .0) at (v .1)))
+    ((λ u. weeks u ∷ one-row 3 (a .total) u ∷ (4 * v .0 u) ∷ []), slot-listable (a .f) _ (c .before .before .pre) (rw (w .0) at (w .1)) (rw (v .0) at (v .1)))
 
 pub lengths-of-spec : {M : Type 1} → statement M
 lengths-of-spec =

@@ -16,7 +16,7 @@ abbrev μ-loop : tie.MeasureT-loop
 μ-loop total place lengths at₀ i₀ at i = place - i
 
 loop-holds : tie.Need-loop-holds Inv-loop μ-loop
-loop-holds c = let e = c .lengths-of .ensures .0 in (search needs, rw e (sym (start-zero (slotLengths _ _))))
+loop-holds c = let e = c .lengths-of .ensures .0 in (search needs, rw e (sym (start-zero (slotLengths (c .before .args .f) _))))
 
 -- the next body begins within 4 bytes' reach
 reach : (c : tie.In-loop Inv-loop μ-loop) → start (c .before .before .lengths-of .result) (c .before .loop .i + 1) < 2 ^ 32

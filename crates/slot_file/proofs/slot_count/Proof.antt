@@ -11,7 +11,7 @@ good c = slot-good _ _ _ (c .pre .0)
 
 cell-in-requires : tie.Need-cell-in-requires
 cell-in-requires c κs =
-    let h = counts-held _ _ _ (good (c .before) .laid) in
+    let h = counts-held (c .before .args .f) _ _ (good (c .before) .laid) in
     record { width = h .width; listed = h .listed; few = h .few; within = omega (arith, h .fits) }
 
 returns : tie.Need-returns

@@ -10,7 +10,7 @@ slots-before-requires : tie.Need-slots-before-requires
 slots-before-requires c κs =
     let s = c .before in
     let a = s .args in
-    let all = counts-held _ _ _ (slot-good (a .f) _ (a .s .now) (s .pre .0) .laid) in
+    let all = counts-held (a .f) _ _ (slot-good (a .f) _ (a .s .now) (s .pre .0) .laid) in
     (record { width = all .width; listed = all .listed; few = all .few; fits = omega (arith, all .fits, s .pre .1) }, omega (arith, s .pre .1))
 
 pub week-start-spec : {M : Type 1} → statement M

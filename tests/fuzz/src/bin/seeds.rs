@@ -1,4 +1,5 @@
-//! Writes the fuzzer's first inputs into a folder: the small plant, also with shut weeks, P1 to P13, the samples and some random plants.
+//! Writes the fuzzer's first inputs into a folder: the small plant, also with B mounted and with shut weeks, P1 to P13, the samples and
+//! some random plants.
 
 use std::path::Path;
 use std::process::ExitCode;
@@ -38,12 +39,17 @@ fn all() -> Vec<Files> {
         plan: small::plan().encode(),
         slots: small::slots().encode(),
     };
+    let with_b_mounted = Files {
+        plant: small::mounted_plant().encode(),
+        plan: small::mounted_plan().encode(),
+        slots: small::slots().encode(),
+    };
     let with_shut_weeks = Files {
         plant: small::long_plant().encode(),
         plan: small::long_plan().encode(),
         slots: small::long_slots().encode(),
     };
-    let mut all = vec![right.clone(), with_shut_weeks];
+    let mut all = vec![right.clone(), with_b_mounted, with_shut_weeks];
     for fact in facts::all() {
         all.push(Files {
             plant: fact.plant.encode(),

@@ -1,0 +1,131 @@
+-- Request 2026-02 holds, for every accepted plant file and every plan file that passes. Assumes nothing.
+use Prim.Native.Nat.{ℕ, _*_, _<_, _≤_}
+use mathlib.Core.Path.{_≡_, refl, sym, ap, _∙_}
+use mathlib.Core.Logic.{_⊎_, _≢_, inl, inr}
+use mathlib.Core.Bool.{true, false, _&&_}
+use mathlib.Core.List.{List, [], _∷_}
+use native.Mathlib.Omega.{arith}
+use lib.ListN.{getD}
+use lib.Dec.{leb}
+use borrow.Author.Tests.{eq-eqb, ne-eqb, le-ltb, lt-leb}
+use Rattle.mathematics.specs.Below.{is}
+use Rattle.mathematics.specs.Order.{firstIn}
+use Rattle.mathematics.proofs.Below.{is-eq}
+use Rattle.numbers.specs.Number.{Bytes}
+use Rattle.contents.proofs.Facts.{headed-facts}
+use Rattle.sections.specs.declared.Shape.{Shape}
+use Rattle.sections.specs.declared.Form.the-variants.{Good}
+use Rattle.plant_file.specs.Plant.{plantOf, mountedIn, shutBeforeIn}
+use Rattle.plant_file.specs.Kinds.{plantKind, hasMounted}
+use Rattle.plant_file.specs.Form.{plantHeaded, mountedKnown, mountedInRange, plantForm}
+use Rattle.plant_file.specs.Ranges.{PlantRanges}
+use Rattle.plant_file.proofs.PlantKinds.{each-kind}
+use Rattle.plant_file.proofs.PlantReads.{and-no, plant-good, outside-refused}
+use Rattle.plant_file.proofs.PlantInRange.{plant-ranges}
+use Rattle.plan_file.specs.Plan.{Plan, planOf}
+use Rattle.slot_file.specs.Slots.{orderOfSlots, slotsOf}
+use Rattle.costs.specs.declared.Mounted.the-variants.{Product}
+use Rattle.costs.specs.Mounted.{openingMounted}
+use Rattle.costs.specs.Changeover.{changeoverBetween}
+use Rattle.costs.proofs.Changeovers.{opening-below}
+use Rattle.machine.specs.declared.State.{State}
+use Rattle.machine.specs.Run.{opening}
+use Rattle.rules.specs.Rules.{weekOf, changeoversUnder}
+use Rattle.model.proofs.Changeovers.{one-changeover}
+use Rattle.model.proofs.GivenPlans.{plan-agree}
+use Rattle.model.proofs.Grids.{grid-ext}
+use Rattle.model.proofs.SmallPlantFacts.{small-plant-facts}
+use Rattle.units.specs.declared.Profit.{Profit}
+use Rattle.calls.specs.declared.Check.the-variants.{Passed}
+use Rattle.calls.specs.Check.{checkOf}
+use Rattle.calls.specs.Answer.{bytes, slotAnswer}
+use Rattle.demands.specs.ThirdDemand.{GivesFile}
+use Rattle.demands.specs.OpeningMounted.{EarlierShut, OpeningMounted}
+use Rattle.demands.proofs.ThirdDemandHolds.{given, given-slots}
+use Rattle.demands.proofs.ShutWeeksHold.{opening-passage}
+use Rattle.demands.proofs.SameAnswersHold.{same-answers}
+
+-- ---- a plant file
+kinds : (plant : List ℕ) (f : Shape) → plantForm plant ≡ Good f
+    → ((f .kind ≡ 1) × (getD plant 1 0 ≡ 11)) ⊎ ((f .kind ≡ 4) × (getD plant 1 0 ≡ 12))
+unfolding plantHeaded
+kinds plant f accepted =
+    let g = plant-good plant f accepted in
+    let k = plantKind (getD plant 0 0) in
+    let h = headed-facts plant (k .number) 1 (k .sections) (g .head) in
+    each-kind
+    (λ k. f .kind ≡ k .number → getD plant 1 0 ≡ k .sections → ((f .kind ≡ 1) × (getD plant 1 0 ≡ 11)) ⊎ ((f .kind ≡ 4) × (getD plant 1 0 ≡ 12)))
+    (λ a b. inl (a, b)) (λ a b. inr (a, b)) (getD plant 0 0) (sym (g .kind) ∙ h .kinds) (h .counts)
+
+has-section : (kind : ℕ) → kind ≡ 4 → hasMounted kind ≡ true
+unfolding hasMounted plantKind
+has-section kind e = rw e refl
+
+has-none : (kind : ℕ) → kind ≡ 1 → hasMounted kind ≡ false
+unfolding hasMounted plantKind
+has-none kind e = rw e refl
+
+-- section 12 outside its values
+outside : (N m b : ℕ) → ((N ≤ m) × (m ≢ 255)) ⊎ (2 ≤ b) → (leb b 1 && mountedKnown N m) ≡ false
+unfolding mountedKnown
+outside N m b (inl h) = rw (le-ltb m N (h .0), ne-eqb m 255 (h .1), and-no) refl
+outside N m b (inr h) = rw (lt-leb b 1 h) refl
+
+-- ---- a plan that slots give
+-- one product comes first
+first-is : (ps : List ℕ) (q : ℕ) → firstIn ps q ≡ 1 → (j : ℕ) → firstIn ps j ≡ is q j
+first-is [] q e j = absurd (omega arith)
+first-is (p ∷ ps) q e j = ap (λ (k : ℕ). is k j) (is-eq p q (omega arith))
+
+module _ (plant : List ℕ) (f : Shape) (accepted : plantForm plant ≡ Good f) (plan : List ℕ) (b : Bytes plan)
+    (slots : List ℕ) (s : State) (gives : GivesFile plant f slots s plan) where
+  abbrev X : Plan
+  X = planOf f plan
+
+  R : PlantRanges (plantOf f plant)
+  R = plant-ranges plant f accepted
+
+  first-mark : (w q : ℕ) → w < f .weeks → q < f .products → X .line .first w q ≡ 1 → (j : ℕ) → j < f .products → X .line .first w j ≡ is q j
+  unfolding weekOf
+  first-mark w q l k e j h =
+      let a = plan-agree R (given plant f accepted plan b slots s gives) w l in
+      a .first j h ∙ first-is (orderOfSlots (slotsOf f slots .line .week w)) q (sym (a .first q k) ∙ e) j
+
+  first-changeover : (p : ℕ) → openingMounted (plantOf f plant .line) ≡ Product p → (w : ℕ) → w < f .weeks → EarlierShut f X w
+      → (q : ℕ) → q < f .products → X .line .first w q ≡ 1
+      → (table : ℕ → ℕ → ℕ) → changeoversUnder (f .products) table (X .line .weekChangeover w) ≡ changeoverBetween table p q
+  unfolding changeoversUnder
+  first-changeover p o w l earlier q k e table =
+      let t = changeoverBetween table in
+      grid-ext (f .products) (f .products) (λ i j. X .line .weekChangeover w i j * t i j) (λ i j. is p i * is q j * t i j)
+      (λ i j h m.
+      ap (λ (z : ℕ). z * t i j)
+      (opening-passage plant f accepted plan b slots s gives (Product p) o w l earlier i j h m
+      ∙ ap (λ (z : ℕ). is p i * z) (first-mark w q l k e j m)))
+      ∙ one-changeover (f .products) table (Product p) q (rw o at (opening-below (f .products) (plantOf f plant .line) (R .line))) k
+
+  given-mounted : OpeningMounted plant f plan slots
+  unfolding opening openingMounted mountedIn shutBeforeIn mountedInRange
+  given-mounted =
+      record {
+        kinds = kinds plant f accepted;
+        section-12 = λ e. (rw (has-section (f .kind) e) refl, rw (has-section (f .kind) e) refl);
+        mounted-known = R .line .mounted-known;
+        shut-before-most = R .line .shut-before-most;
+        second-byte-unread = λ other good same. same-answers f plant other accepted good same;
+        first-changeover = first-changeover;
+        first-passage = λ p o. opening-passage plant f accepted plan b slots s gives (Product p) o;
+        kind-one = λ e. (rw (has-none (f .kind) e) refl, rw (has-none (f .kind) e) refl);
+        outside-is-5 = λ t h l i z o. outside-refused t h l i z (outside _ _ _ o);
+        opening-mounted = refl;
+        product-mounted = λ l. rw (ne-eqb (plantOf f plant .line .mounted) 255 (λ e. absurd (omega (arith, l, e, R .products-most)))) refl;
+        nothing-mounted = λ e. rw (eq-eqb (plantOf f plant .line .mounted) 255 e) refl;
+        case-mounted = small-plant-facts .1;
+      }
+
+-- ---- a plan that passes, and what slot return answers
+pub opening-mounted : (plant : List ℕ) (f : Shape) → plantForm plant ≡ Good f → (plan : List ℕ) → Bytes plan
+    → (q : Profit) → checkOf plant plan ≡ Passed q → (slots : List ℕ) → slotAnswer plant plan ≡ bytes slots → OpeningMounted plant f plan slots
+opening-mounted plant f accepted plan b q e slots a =
+    let r = given-slots plant f accepted plan b q e slots a in
+    given-mounted plant f accepted plan b slots (r .0) (r .1)

@@ -1,0 +1,89 @@
+-- REQUEST 2026-02, WHAT IS MOUNTED ON MONDAY, over the calls' own definitions: the claim for one accepted plant file, a plan file that passes, and
+-- the slot file that slot return answers with. Each sentence of the request is a field, or a few. Assumes nothing.
+use Prim.Native.Nat.{ℕ, _*_, _≤_, _<_}
+use mathlib.Core.Path.{_≡_}
+use mathlib.Core.Logic.{_⊎_, _≢_}
+use mathlib.Core.Bool.{true}
+use mathlib.Core.List.{List}
+use lib.ListN.{getD}
+use lib.IntN.{pos}
+use Rattle.mathematics.specs.Below.{is}
+use Rattle.numbers.specs.Number.{Bytes}
+use Rattle.contents.specs.Contents.{cell, sized}
+use Rattle.sections.specs.declared.Shape.{Shape}
+use Rattle.sections.specs.declared.Form.the-variants.{Good, Refused}
+use Rattle.plant_file.specs.Plant.{plantOf, mountedIn, shutBeforeIn}
+use Rattle.plant_file.specs.Form.{shapeOf, plantHeaded, laidOut, inLimits, plantLengths, plantForm}
+use Rattle.plan_file.specs.Plan.{Plan, planOf}
+use Rattle.costs.specs.declared.Mounted.the-variants.{Nothing, Product}
+use Rattle.costs.specs.Mounted.{openingMounted}
+use Rattle.costs.specs.Changeover.{changeoverBetween}
+use Rattle.machine.specs.declared.Outcome.the-variants.{Continues}
+use Rattle.machine.specs.Run.{opening}
+use Rattle.rules.specs.declared.Verdict.the-variants.{Passed}
+use Rattle.rules.specs.Rules.{changeoversUnder}
+use Rattle.model.specs.SmallPlant.{ran, factOf, mountedCase}
+use Rattle.calls.specs.Check.{checkOf}
+use Rattle.calls.specs.Answer.{slotAnswer, planAnswer}
+use Rattle.report.specs.Report.{reportText}
+use Rattle.demands.specs.ShutWeeks.{IsShut}
+
+-- two plant files of one shape that differ at most in whether the week before was shut: every other number is the same
+pub record SameNumbers (f : Shape) (a b : List ℕ) : Type 0 where
+  pub rate : (i : ℕ) → i < f .products → plantOf f a .line .rate i ≡ plantOf f b .line .rate i
+  pub changeoverMinutes : (i j : ℕ) → i < f .products → j < f .products
+      → plantOf f a .line .changeoverMinutes i j ≡ plantOf f b .line .changeoverMinutes i j
+  pub changeoverCents : (i j : ℕ) → i < f .products → j < f .products
+      → plantOf f a .line .changeoverCents i j ≡ plantOf f b .line .changeoverCents i j
+  pub mounted : plantOf f a .line .mounted ≡ plantOf f b .line .mounted
+  pub demand : (c i w : ℕ) → c < f .customers → i < f .products → w < f .weeks → plantOf f a .demand c i w ≡ plantOf f b .demand c i w
+  pub price : (c i : ℕ) → c < f .customers → i < f .products → plantOf f a .price c i ≡ plantOf f b .price c i
+  pub backlogCost : (c i : ℕ) → c < f .customers → i < f .products → plantOf f a .backlogCost c i ≡ plantOf f b .backlogCost c i
+  pub inventoryCost : (i : ℕ) → i < f .products → plantOf f a .inventoryCost i ≡ plantOf f b .inventoryCost i
+  pub leastStorage : (i : ℕ) → i < f .products → plantOf f a .leastStorage i ≡ plantOf f b .leastStorage i
+  pub greatestStorage : (i : ℕ) → i < f .products → plantOf f a .greatestStorage i ≡ plantOf f b .greatestStorage i
+  pub openingInventory : (i : ℕ) → i < f .products → plantOf f a .openingInventory i ≡ plantOf f b .openingInventory i
+  pub openingBacklog : (c i : ℕ) → c < f .customers → i < f .products → plantOf f a .openingBacklog c i ≡ plantOf f b .openingBacklog c i
+  pub shortestRun : plantOf f a .shortestRun ≡ plantOf f b .shortestRun
+  pub weekMinutes : plantOf f a .weekMinutes ≡ plantOf f b .weekMinutes
+
+-- equal verdicts, runs, tables and reports: each call and the report answer alike
+pub record SameAnswers (a b : List ℕ) : Type 0 where
+  pub check : (plan : List ℕ) → checkOf a plan ≡ checkOf b plan
+  pub slots : (plan : List ℕ) → slotAnswer a plan ≡ slotAnswer b plan
+  pub plan : (slots : List ℕ) → planAnswer a slots ≡ planAnswer b slots
+  pub report : (plan : List ℕ) → Bytes plan → reportText a plan ≡ reportText b plan
+
+-- every week of a plan before week w is shut
+abbrev pub EarlierShut : Shape → Plan → ℕ → Type 0
+EarlierShut f x w = (u : ℕ) → u < w → IsShut f x u
+
+pub record OpeningMounted (plant : List ℕ) (f : Shape) (plan slots : List ℕ) : Type 0 where
+  -- "Plant files of kind 4 add section 12": the kind and the count of sections
+  pub kinds : ((f .kind ≡ 1) × (getD plant 1 0 ≡ 11)) ⊎ ((f .kind ≡ 4) × (getD plant 1 0 ≡ 12))
+  -- "the mounted product or 255 for none, then one byte, 1 if the week before the horizon was shut, else 0"
+  pub section-12 : f .kind ≡ 4 → (plantOf f plant .line .mounted ≡ cell 1 plant 11 0) × (plantOf f plant .line .shutBefore ≡ cell 1 plant 11 1)
+  pub mounted-known : (plantOf f plant .line .mounted < f .products) ⊎ (plantOf f plant .line .mounted ≡ 255)
+  pub shut-before-most : plantOf f plant .line .shutBefore ≤ 1
+  -- "The second byte changes nothing yet": it does from request 2026-09 on
+  pub second-byte-unread : (other : List ℕ) → plantForm other ≡ Good f → SameNumbers f plant other → SameAnswers plant other
+  -- "With a product mounted, the first producing week pays its changeover", minutes or cents by their table: p is mounted, q comes first
+  pub first-changeover : (p : ℕ) → openingMounted (plantOf f plant .line) ≡ Product p → (w : ℕ) → w < f .weeks → EarlierShut f (planOf f plan) w
+      → (q : ℕ) → q < f .products → planOf f plan .line .first w q ≡ 1
+      → (table : ℕ → ℕ → ℕ) → changeoversUnder (f .products) table (planOf f plan .line .weekChangeover w) ≡ changeoverBetween table p q
+  -- "and its ZF row says so, in week 0 too"
+  pub first-passage : (p : ℕ) → openingMounted (plantOf f plant .line) ≡ Product p → (w : ℕ) → w < f .weeks → EarlierShut f (planOf f plan) w
+      → (i j : ℕ) → i < f .products → j < f .products → planOf f plan .line .weekChangeover w i j ≡ is p i * planOf f plan .line .first w j
+  -- "Kind 1 reads as 255 and 0."
+  pub kind-one : f .kind ≡ 1 → (plantOf f plant .line .mounted ≡ 255) × (plantOf f plant .line .shutBefore ≡ 0)
+  -- "Section 12 outside these values is a 5": of every file past rows 1 to 4
+  pub outside-is-5 : (s : List ℕ) → plantHeaded s ≡ true → laidOut s ≡ true → inLimits (shapeOf s) ≡ true
+      → sized s (plantLengths (shapeOf s)) ≡ true
+      → ((shapeOf s .products ≤ mountedIn (shapeOf s) s) × (mountedIn (shapeOf s) s ≢ 255)) ⊎ (2 ≤ shutBeforeIn (shapeOf s) s)
+      → plantForm s ≡ Refused 5
+  -- "Plans are compared with the machine begun from that mounted product": the third demand in its own words, over runs that begin so
+  pub opening-mounted : opening (plantOf f plant) .line .mounted ≡ openingMounted (plantOf f plant .line)
+  pub product-mounted : plantOf f plant .line .mounted < f .products → openingMounted (plantOf f plant .line) ≡ Product (plantOf f plant .line .mounted)
+  pub nothing-mounted : plantOf f plant .line .mounted ≡ 255 → openingMounted (plantOf f plant .line) ≡ Nothing
+  -- the small plant with B mounted
+  pub case-mounted : factOf mountedCase ≡ ran (Passed (record { 0 = pos 8150000 })) Continues

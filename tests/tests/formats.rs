@@ -4,7 +4,7 @@
 use std::fs;
 use std::path::Path;
 
-use doxkarin_tests::model::{Plan, Slot, Slots};
+use doxkarin_tests::model::{Plan, Plant, Slot, Slots};
 use doxkarin_tests::scenario::greatest_sizes;
 use doxkarin_tests::{samples, small};
 
@@ -72,8 +72,11 @@ fn the_document_names_the_greatest_lengths() {
     let sizes = greatest_sizes();
     let rows = vec![vec![Slot { product: 0, minutes: 0 }; sizes.products]; sizes.weeks];
     let plan = Plan::zeros(sizes);
+    let plant = samples::least_plant(sizes);
+    let mounted = Plant { opening_line: small::mounted_plant().opening_line, ..plant.clone() };
     let lengths = [
-        samples::least_plant(sizes).encode().len(),
+        plant.encode().len(),
+        mounted.encode().len(),
         plan.encode().len(),
         Slots::from_rows(&rows, plan.sales).encode().len(),
     ];

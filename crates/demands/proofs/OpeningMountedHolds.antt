@@ -38,10 +38,9 @@ use Rattle.model.proofs.SmallPlantFacts.{small-plant-facts}
 use Rattle.units.specs.declared.Profit.{Profit}
 use Rattle.calls.specs.declared.Check.the-variants.{Passed}
 use Rattle.calls.specs.Check.{checkOf}
-use Rattle.calls.specs.Answer.{bytes, slotAnswer}
 use Rattle.demands.specs.ThirdDemand.{GivesFile}
 use Rattle.demands.specs.OpeningMounted.{EarlierShut, OpeningMounted}
-use Rattle.demands.proofs.ThirdDemandHolds.{given, given-slots}
+use Rattle.demands.proofs.ThirdDemandHolds.{given, third-demand}
 use Rattle.demands.proofs.ShutWeeksHold.{opening-passage}
 use Rattle.demands.proofs.SameAnswersHold.{same-answers}
 
@@ -104,7 +103,7 @@ module _ (plant : List ℕ) (f : Shape) (accepted : plantForm plant ≡ Good f) 
       ∙ ap (λ (z : ℕ). is p i * z) (first-mark w q l k e j m)))
       ∙ one-changeover (f .products) table (Product p) q (rw o at (opening-below (f .products) (plantOf f plant .line) (R .line))) k
 
-  given-mounted : OpeningMounted plant f plan slots
+  given-mounted : OpeningMounted plant f plan
   unfolding opening openingMounted mountedIn shutBeforeIn mountedInRange
   given-mounted =
       record {
@@ -123,9 +122,9 @@ module _ (plant : List ℕ) (f : Shape) (accepted : plantForm plant ≡ Good f) 
         case-mounted = small-plant-facts .1;
       }
 
--- ---- a plan that passes, and what slot return answers
+-- ---- a plan that passes
 pub opening-mounted : (plant : List ℕ) (f : Shape) → plantForm plant ≡ Good f → (plan : List ℕ) → Bytes plan
-    → (q : Profit) → checkOf plant plan ≡ Passed q → (slots : List ℕ) → slotAnswer plant plan ≡ bytes slots → OpeningMounted plant f plan slots
-opening-mounted plant f accepted plan b q e slots a =
-    let r = given-slots plant f accepted plan b q e slots a in
-    given-mounted plant f accepted plan b slots (r .0) (r .1)
+    → (q : Profit) → checkOf plant plan ≡ Passed q → OpeningMounted plant f plan
+opening-mounted plant f accepted plan b q e =
+    let r = third-demand plant f accepted plan b .passes-exactly .0 (q, e) in
+    given-mounted plant f accepted plan b (r .0) (r .1) (r .2)

@@ -41,7 +41,7 @@ use Rattle.calls.specs.Check.{checkOf}
 use Rattle.calls.specs.Answer.{bytes, slotAnswer}
 use Rattle.demands.specs.ThirdDemand.{GivesFile}
 use Rattle.demands.specs.ShutWeeks.{ShutTables, ShutSales, IsShut, Produces, ShutWeeks}
-use Rattle.demands.proofs.ThirdDemandHolds.{given, given-slots}
+use Rattle.demands.proofs.ThirdDemandHolds.{given, slot-answer, third-demand}
 
 -- slots of no product are none
 no-slots : (N : ℕ) (xs : List Slot) → ProductsBelow N (orderOfSlots xs) → ((i : ℕ) → i < N → assignedIn (orderOfSlots xs) i ≡ 0) → xs ≡ []
@@ -156,5 +156,7 @@ module _ (plant : List ℕ) (f : Shape) (accepted : plantForm plant ≡ Good f) 
 pub shut-weeks : (plant : List ℕ) (f : Shape) → plantForm plant ≡ Good f → (plan : List ℕ) → Bytes plan
     → (q : Profit) → checkOf plant plan ≡ Passed q → (slots : List ℕ) → slotAnswer plant plan ≡ bytes slots → ShutWeeks plant f plan slots
 shut-weeks plant f accepted plan b q e slots a =
-    let r = given-slots plant f accepted plan b q e slots a in
-    given-weeks plant f accepted plan b slots (r .0) (r .1)
+    let r = third-demand plant f accepted plan b .passes-exactly .0 (q, e) in
+    let alike = sym (slot-answer plant f accepted plan b (r .0) (r .1) (r .2)) ∙ a in
+    let same : r .0 ≡ slots = cc in
+    rw same at (given-weeks plant f accepted plan b (r .0) (r .1) (r .2))

@@ -156,12 +156,3 @@ module _ (plant : List ℕ) (f : Shape) (accepted : plantForm plant ≡ Good f) 
         plan-again = λ slots s g out l. rw (plan-answer slots s g) (long-enough plan out (omega arith));
         profit-of-run = λ slots s g. passing-check (s .profit) (passing slots s g);
       }
-
--- the slot file that slot return answers with gives a plan that passes
-pub given-slots : (plant : List ℕ) (f : Shape) → plantForm plant ≡ Good f → (plan : List ℕ) → Bytes plan → (q : Profit) → checkOf plant plan ≡ Passed q
-    → (slots : List ℕ) → slotAnswer plant plan ≡ bytes slots → (s : State) × GivesFile plant f slots s plan
-given-slots plant f accepted plan b q e slots a =
-    let r = third-demand plant f accepted plan b .passes-exactly .0 (q, e) in
-    let alike = sym (slot-answer plant f accepted plan b (r .0) (r .1) (r .2)) ∙ a in
-    let same : r .0 ≡ slots = cc in
-    (r .1, rw same at (r .2))

@@ -1,5 +1,5 @@
--- REQUEST 2026-02, WHAT IS MOUNTED ON MONDAY, over the calls' own definitions: the claim for one accepted plant file, a plan file that passes, and
--- the slot file that slot return answers with. Each sentence of the request is a field, or a few. Assumes nothing.
+-- REQUEST 2026-02, WHAT IS MOUNTED ON MONDAY, over the calls' own definitions: the claim for one accepted plant file and a plan file that passes.
+-- Each sentence of the request is a field, or a few. Assumes nothing.
 use Prim.Native.Nat.{ℕ, _*_, _≤_, _<_}
 use mathlib.Core.Path.{_≡_}
 use mathlib.Core.Logic.{_⊎_, _≢_}
@@ -58,7 +58,7 @@ pub record SameAnswers (a b : List ℕ) : Type 0 where
 abbrev pub EarlierShut : Shape → Plan → ℕ → Type 0
 EarlierShut f x w = (u : ℕ) → u < w → IsShut f x u
 
-pub record OpeningMounted (plant : List ℕ) (f : Shape) (plan slots : List ℕ) : Type 0 where
+pub record OpeningMounted (plant : List ℕ) (f : Shape) (plan : List ℕ) : Type 0 where
   -- "Plant files of kind 4 add section 12": the kind and the count of sections
   pub kinds : ((f .kind ≡ 1) × (getD plant 1 0 ≡ 11)) ⊎ ((f .kind ≡ 4) × (getD plant 1 0 ≡ 12))
   -- "the mounted product or 255 for none, then one byte, 1 if the week before the horizon was shut, else 0"

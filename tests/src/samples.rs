@@ -71,8 +71,8 @@ pub fn plants() -> Vec<Sample> {
 
     // As long as the contents of kind 1, and a byte short of those of kind 4.
     add(1, "mounted-short", mounted.encode()[..contents_end + 8].to_vec());
-    add(1, "line-of-kind-1", Parts::new(Kind::Plant, 1, &mounted.bodies()).bytes());
-    add(1, "no-line-of-kind-4", Parts::new(Kind::MountedPlant, 1, &right.bodies()).bytes());
+    add(1, "section-12-of-kind-1", Parts::new(Kind::Plant, 1, &mounted.bodies()).bytes());
+    add(1, "no-section-12-of-kind-4", Parts::new(Kind::MountedPlant, 1, &right.bodies()).bytes());
 
     add(2, "contents-only", file[..contents_end].to_vec());
     add(2, "gap", changed(&parts, |parts| insert_gap(parts, 5)).bytes());
@@ -90,7 +90,7 @@ pub fn plants() -> Vec<Sample> {
 
     add(4, "length", damaged(|plant| plant.rates.truncate(1)));
     add(4, "length-and-rate", damaged(|plant| plant.rates = vec![0]));
-    add(4, "line-length", Parts::new(Kind::MountedPlant, 1, &long_line).bytes());
+    add(4, "section-12-length", Parts::new(Kind::MountedPlant, 1, &long_line).bytes());
 
     add(5, "no-rate", damaged(|plant| plant.rates[1] = 0));
     add(5, "rate", damaged(|plant| plant.rates[1] = 100_001));

@@ -31,6 +31,7 @@ fn every_sort_runs() {
     assert!(percent(run, SCENARIOS) >= 50, "{run} of {SCENARIOS} run");
     assert!(percent(shut, run) >= 25, "{shut} of {run} have shut weeks");
     for ((name, _), count) in SORTS.iter().zip(sorts) {
-        assert!(percent(count, run) >= 1, "{count} of {run} are of the sort: {name}");
+        let least = if name.starts_with("shut") { 2 } else { 1 };
+        assert!(percent(count, run) >= least, "{count} of {run} are of the sort: {name}");
     }
 }

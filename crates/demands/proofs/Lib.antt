@@ -1,6 +1,7 @@
 pub mod SameRuns
 pub mod SameVerdicts
 pub mod SamePlants
+pub mod SecondByte
 pub mod SameAnswersHold
 pub mod ThirdDemandHolds
 pub mod OtherDemandsHold

@@ -1,8 +1,8 @@
--- Request 2026-02 holds, for every accepted plant file and every plan file that passes. Assumes nothing.
-use Prim.Native.Nat.{ℕ, _*_, _<_, _≤_}
+-- Request 2026-02 holds, for every accepted plant file. Assumes nothing.
+use Prim.Native.Nat.{ℕ, _+_, _*_, _<_, _≤_}
 use mathlib.Core.Path.{_≡_, refl, sym, ap, _∙_}
 use mathlib.Core.Logic.{_⊎_, _≢_, inl, inr}
-use mathlib.Core.Bool.{true, false, _&&_}
+use mathlib.Core.Bool.{Bool, true, false, _&&_}
 use mathlib.Core.List.{List, [], _∷_}
 use native.Mathlib.Omega.{arith}
 use lib.ListN.{getD}
@@ -10,17 +10,17 @@ use lib.Dec.{leb}
 use borrow.Author.Tests.{eq-eqb, ne-eqb, le-ltb, lt-leb}
 use Rattle.mathematics.specs.Below.{is}
 use Rattle.mathematics.specs.Order.{firstIn}
-use Rattle.mathematics.proofs.Below.{is-eq}
+use Rattle.mathematics.proofs.Below.{and-false, is-eq}
 use Rattle.numbers.specs.Number.{Bytes}
 use Rattle.contents.proofs.Facts.{headed-facts}
 use Rattle.sections.specs.declared.Shape.{Shape}
-use Rattle.sections.specs.declared.Form.the-variants.{Good}
+use Rattle.sections.specs.declared.Form.the-variants.{Good, Refused}
 use Rattle.plant_file.specs.Plant.{plantOf, mountedIn, shutBeforeIn}
 use Rattle.plant_file.specs.Kinds.{plantKind, hasMounted}
 use Rattle.plant_file.specs.Form.{plantHeaded, mountedKnown, mountedInRange, plantForm}
 use Rattle.plant_file.specs.Ranges.{PlantRanges}
 use Rattle.plant_file.proofs.PlantKinds.{each-kind}
-use Rattle.plant_file.proofs.PlantReads.{and-no, plant-good, outside-refused}
+use Rattle.plant_file.proofs.PlantReads.{plant-good, outside-refused}
 use Rattle.plant_file.proofs.PlantInRange.{plant-ranges}
 use Rattle.plan_file.specs.Plan.{Plan, planOf}
 use Rattle.slot_file.specs.Slots.{orderOfSlots, slotsOf}
@@ -30,35 +30,41 @@ use Rattle.costs.specs.Changeover.{changeoverBetween}
 use Rattle.costs.proofs.Changeovers.{opening-below}
 use Rattle.machine.specs.declared.State.{State}
 use Rattle.machine.specs.Run.{opening}
-use Rattle.rules.specs.Rules.{weekOf, changeoversUnder}
+use Rattle.rules.specs.Rules.{weekOf, changeoversUnder, changeoversIn}
 use Rattle.model.proofs.Changeovers.{one-changeover}
 use Rattle.model.proofs.GivenPlans.{plan-agree}
 use Rattle.model.proofs.Grids.{grid-ext}
 use Rattle.model.proofs.SmallPlantFacts.{small-plant-facts}
-use Rattle.units.specs.declared.Profit.{Profit}
-use Rattle.calls.specs.declared.Check.the-variants.{Passed}
-use Rattle.calls.specs.Check.{checkOf}
 use Rattle.demands.specs.ThirdDemand.{GivesFile}
-use Rattle.demands.specs.OpeningMounted.{EarlierShut, OpeningMounted}
+use Rattle.demands.specs.OpeningMounted.{Passes, EarlierShut, OpeningMounted}
 use Rattle.demands.proofs.ThirdDemandHolds.{given, third-demand}
 use Rattle.demands.proofs.ShutWeeksHold.{opening-passage}
+use Rattle.demands.proofs.SecondByte.{has-section, same-numbers}
 use Rattle.demands.proofs.SameAnswersHold.{same-answers}
 
 -- ---- a plant file
+-- what row 1 compares
+headed-kinds : (s : List ℕ) → plantHeaded s ≡ true
+    → ((getD s 0 0 ≡ 1) × (getD s 1 0 ≡ 11)) ⊎ ((getD s 0 0 ≡ 4) × (getD s 1 0 ≡ 12))
+unfolding plantHeaded
+headed-kinds s h =
+    let k = plantKind (getD s 0 0) in
+    let g = headed-facts s (k .number) 1 (k .sections) h in
+    each-kind
+    (λ k. getD s 0 0 ≡ k .number → getD s 1 0 ≡ k .sections → ((getD s 0 0 ≡ 1) × (getD s 1 0 ≡ 11)) ⊎ ((getD s 0 0 ≡ 4) × (getD s 1 0 ≡ 12)))
+    (λ a b. inl (a, b)) (λ a b. inr (a, b)) (getD s 0 0) (g .kinds) (g .counts)
+
+other-pair : (s : List ℕ) → ((getD s 0 0 ≡ 1) × (getD s 1 0 ≡ 11) → ⊥) → ((getD s 0 0 ≡ 4) × (getD s 1 0 ≡ 12) → ⊥) → plantForm s ≡ Refused 1
+unfolding plantForm
+other-pair s one four = go (plantHeaded s) refl
+  where
+    go : (t : Bool) → plantHeaded s ≡ t → plantForm s ≡ Refused 1
+    go true e = absurd (elim (headed-kinds s e) [ inl h ↦ one h | inr h ↦ four h ])
+    go false e = rw e refl
+
 kinds : (plant : List ℕ) (f : Shape) → plantForm plant ≡ Good f
     → ((f .kind ≡ 1) × (getD plant 1 0 ≡ 11)) ⊎ ((f .kind ≡ 4) × (getD plant 1 0 ≡ 12))
-unfolding plantHeaded
-kinds plant f accepted =
-    let g = plant-good plant f accepted in
-    let k = plantKind (getD plant 0 0) in
-    let h = headed-facts plant (k .number) 1 (k .sections) (g .head) in
-    each-kind
-    (λ k. f .kind ≡ k .number → getD plant 1 0 ≡ k .sections → ((f .kind ≡ 1) × (getD plant 1 0 ≡ 11)) ⊎ ((f .kind ≡ 4) × (getD plant 1 0 ≡ 12)))
-    (λ a b. inl (a, b)) (λ a b. inr (a, b)) (getD plant 0 0) (sym (g .kind) ∙ h .kinds) (h .counts)
-
-has-section : (kind : ℕ) → kind ≡ 4 → hasMounted kind ≡ true
-unfolding hasMounted plantKind
-has-section kind e = rw e refl
+kinds plant f accepted = let g = plant-good plant f accepted in rw (← (g .kind)) (headed-kinds plant (g .head))
 
 has-none : (kind : ℕ) → kind ≡ 1 → hasMounted kind ≡ false
 unfolding hasMounted plantKind
@@ -67,7 +73,7 @@ has-none kind e = rw e refl
 -- section 12 outside its values
 outside : (N m b : ℕ) → ((N ≤ m) × (m ≢ 255)) ⊎ (2 ≤ b) → (leb b 1 && mountedKnown N m) ≡ false
 unfolding mountedKnown
-outside N m b (inl h) = rw (le-ltb m N (h .0), ne-eqb m 255 (h .1), and-no) refl
+outside N m b (inl h) = rw (le-ltb m N (h .0), ne-eqb m 255 (h .1), and-false) refl
 outside N m b (inr h) = rw (lt-leb b 1 h) refl
 
 -- ---- a plan that slots give
@@ -91,40 +97,43 @@ module _ (plant : List ℕ) (f : Shape) (accepted : plantForm plant ≡ Good f) 
       a .first j h ∙ first-is (orderOfSlots (slotsOf f slots .line .week w)) q (sym (a .first q k) ∙ e) j
 
   first-changeover : (p : ℕ) → openingMounted (plantOf f plant .line) ≡ Product p → (w : ℕ) → w < f .weeks → EarlierShut f X w
-      → (q : ℕ) → q < f .products → X .line .first w q ≡ 1
-      → (table : ℕ → ℕ → ℕ) → changeoversUnder (f .products) table (X .line .weekChangeover w) ≡ changeoverBetween table p q
-  unfolding changeoversUnder
+      → (q : ℕ) → q < f .products → X .line .first w q ≡ 1 → (table : ℕ → ℕ → ℕ)
+      → changeoversIn (f .products) table (X .line) w ≡ changeoversUnder (f .products) table (X .line .changeover w) + changeoverBetween table p q
+  unfolding changeoversIn changeoversUnder
   first-changeover p o w l earlier q k e table =
       let t = changeoverBetween table in
-      grid-ext (f .products) (f .products) (λ i j. X .line .weekChangeover w i j * t i j) (λ i j. is p i * is q j * t i j)
+      ap (λ (z : ℕ). changeoversUnder (f .products) table (X .line .changeover w) + z)
+      (grid-ext (f .products) (f .products) (λ i j. X .line .weekChangeover w i j * t i j) (λ i j. is p i * is q j * t i j)
       (λ i j h m.
       ap (λ (z : ℕ). z * t i j)
       (opening-passage plant f accepted plan b slots s gives (Product p) o w l earlier i j h m
       ∙ ap (λ (z : ℕ). is p i * z) (first-mark w q l k e j m)))
-      ∙ one-changeover (f .products) table (Product p) q (rw o at (opening-below (f .products) (plantOf f plant .line) (R .line))) k
+      ∙ one-changeover (f .products) table (Product p) q (rw o at (opening-below (f .products) (plantOf f plant .line) (R .line))) k)
 
-  given-mounted : OpeningMounted plant f plan
-  unfolding opening openingMounted mountedIn shutBeforeIn mountedInRange
-  given-mounted =
-      record {
-        kinds = kinds plant f accepted;
-        section-12 = λ e. (rw (has-section (f .kind) e) refl, rw (has-section (f .kind) e) refl);
-        mounted-known = R .line .mounted-known;
-        shut-before-most = R .line .shut-before-most;
-        second-byte-unread = λ other good same. same-answers f plant other accepted good same;
-        first-changeover = first-changeover;
-        first-passage = λ p o. opening-passage plant f accepted plan b slots s gives (Product p) o;
-        kind-one = λ e. (rw (has-none (f .kind) e) refl, rw (has-none (f .kind) e) refl);
-        outside-is-5 = λ t h l i z o. outside-refused t h l i z (outside _ _ _ o);
-        opening-mounted = refl;
-        product-mounted = λ l. rw (ne-eqb (plantOf f plant .line .mounted) 255 (λ e. absurd (omega (arith, l, e, R .products-most)))) refl;
-        nothing-mounted = λ e. rw (eq-eqb (plantOf f plant .line .mounted) 255 e) refl;
-        case-mounted = small-plant-facts .1;
-      }
+-- ---- an accepted plant file
+-- a plan that passes has slots that give it
+given-slots : (plant : List ℕ) (f : Shape) → plantForm plant ≡ Good f → (plan : List ℕ) → Passes plant plan
+    → (slots : List ℕ) × (s : State) × GivesFile plant f slots s plan
+given-slots plant f accepted plan h = third-demand plant f accepted plan (h .bytes) .passes-exactly .0 (h .profit, h .passed)
 
--- ---- a plan that passes
-pub opening-mounted : (plant : List ℕ) (f : Shape) → plantForm plant ≡ Good f → (plan : List ℕ) → Bytes plan
-    → (q : Profit) → checkOf plant plan ≡ Passed q → OpeningMounted plant f plan
-opening-mounted plant f accepted plan b q e =
-    let r = third-demand plant f accepted plan b .passes-exactly .0 (q, e) in
-    given-mounted plant f accepted plan b (r .0) (r .1) (r .2)
+pub opening-mounted : (plant : List ℕ) (f : Shape) → plantForm plant ≡ Good f → OpeningMounted plant f
+unfolding opening openingMounted mountedIn shutBeforeIn mountedInRange
+opening-mounted plant f accepted =
+    let R = plant-ranges plant f accepted in
+    record {
+      kind = sym (plant-good plant f accepted .kind);
+      kinds = kinds plant f accepted;
+      other-pair-is-1 = other-pair;
+      section-12 = λ e. (rw (has-section (f .kind) e) refl, rw (has-section (f .kind) e) refl);
+      mounted-known = R .line .mounted-known;
+      shut-before-most = R .line .shut-before-most;
+      second-byte-unread = λ other good e h. same-answers f plant other accepted good (same-numbers f plant other accepted e h);
+      first-changeover = λ plan h. let r = given-slots plant f accepted plan h in first-changeover plant f accepted plan (h .bytes) (r .0) (r .1) (r .2);
+      first-passage = λ plan h p o. let r = given-slots plant f accepted plan h in opening-passage plant f accepted plan (h .bytes) (r .0) (r .1) (r .2) (Product p) o;
+      kind-one = λ e. (rw (has-none (f .kind) e) refl, rw (has-none (f .kind) e) refl);
+      outside-is-5 = λ t h l i z o. outside-refused t h l i z (outside _ _ _ o);
+      opening-mounted = λ l. rw (ne-eqb (plantOf f plant .line .mounted) 255 (λ e. absurd (omega (arith, l, e, R .products-most)))) refl;
+      opening-nothing = λ e. rw (eq-eqb (plantOf f plant .line .mounted) 255 e) refl;
+      compared = third-demand plant f accepted;
+      case-mounted = small-plant-facts .1;
+    }

@@ -1,11 +1,11 @@
--- REQUEST 2026-02, WHAT IS MOUNTED ON MONDAY, over the calls' own definitions: the claim for one accepted plant file and a plan file that passes.
+-- REQUEST 2026-02, WHAT IS MOUNTED ON MONDAY, over the calls' own definitions: the claim for one accepted plant file.
 -- Each sentence of the request is a field, or a few. Assumes nothing.
-use Prim.Native.Nat.{ℕ, _*_, _≤_, _<_}
+use Prim.Native.Nat.{ℕ, _+_, _*_, _≤_, _<_}
 use mathlib.Core.Path.{_≡_}
 use mathlib.Core.Logic.{_⊎_, _≢_}
 use mathlib.Core.Bool.{true}
 use mathlib.Core.List.{List}
-use lib.ListN.{getD}
+use lib.ListN.{length, getD}
 use lib.IntN.{pos}
 use Rattle.mathematics.specs.Below.{is}
 use Rattle.numbers.specs.Number.{Bytes}
@@ -21,11 +21,14 @@ use Rattle.costs.specs.Changeover.{changeoverBetween}
 use Rattle.machine.specs.declared.Outcome.the-variants.{Continues}
 use Rattle.machine.specs.Run.{opening}
 use Rattle.rules.specs.declared.Verdict.the-variants.{Passed}
-use Rattle.rules.specs.Rules.{changeoversUnder}
+use Rattle.rules.specs.Rules.{changeoversUnder, changeoversIn}
 use Rattle.model.specs.SmallPlant.{ran, factOf, mountedCase}
+use Rattle.units.specs.declared.Profit.{Profit}
+use Rattle.calls.specs.declared.Check.the-variants as check
 use Rattle.calls.specs.Check.{checkOf}
 use Rattle.calls.specs.Answer.{slotAnswer, planAnswer}
 use Rattle.report.specs.Report.{reportText}
+use Rattle.demands.specs.ThirdDemand.{ThirdDemand}
 use Rattle.demands.specs.ShutWeeks.{IsShut}
 
 -- two plant files of one shape that differ at most in whether the week before was shut: every other number is the same
@@ -54,25 +57,38 @@ pub record SameAnswers (a b : List ℕ) : Type 0 where
   pub plan : (slots : List ℕ) → planAnswer a slots ≡ planAnswer b slots
   pub report : (plan : List ℕ) → Bytes plan → reportText a plan ≡ reportText b plan
 
+-- a plan file that passes
+pub record Passes (plant plan : List ℕ) : Type 0 where
+  pub bytes : Bytes plan
+  pub profit : Profit
+  pub passed : checkOf plant plan ≡ check.Passed profit
+
 -- every week of a plan before week w is shut
 abbrev pub EarlierShut : Shape → Plan → ℕ → Type 0
 EarlierShut f x w = (u : ℕ) → u < w → IsShut f x u
 
-pub record OpeningMounted (plant : List ℕ) (f : Shape) (plan : List ℕ) : Type 0 where
-  -- "Plant files of kind 4 add section 12": the kind and the count of sections
+pub record OpeningMounted (plant : List ℕ) (f : Shape) : Type 0 where
+  -- "Plant files of kind 4 add section 12": kind 1 with 11 sections, or kind 4 with 12
+  pub kind : f .kind ≡ getD plant 0 0
   pub kinds : ((f .kind ≡ 1) × (getD plant 1 0 ≡ 11)) ⊎ ((f .kind ≡ 4) × (getD plant 1 0 ≡ 12))
+  -- any other pair is a 1
+  pub other-pair-is-1 : (s : List ℕ) → ((getD s 0 0 ≡ 1) × (getD s 1 0 ≡ 11) → ⊥) → ((getD s 0 0 ≡ 4) × (getD s 1 0 ≡ 12) → ⊥) → plantForm s ≡ Refused 1
   -- "the mounted product or 255 for none, then one byte, 1 if the week before the horizon was shut, else 0"
   pub section-12 : f .kind ≡ 4 → (plantOf f plant .line .mounted ≡ cell 1 plant 11 0) × (plantOf f plant .line .shutBefore ≡ cell 1 plant 11 1)
   pub mounted-known : (plantOf f plant .line .mounted < f .products) ⊎ (plantOf f plant .line .mounted ≡ 255)
   pub shut-before-most : plantOf f plant .line .shutBefore ≤ 1
-  -- "The second byte changes nothing yet": it does from request 2026-09 on
-  pub second-byte-unread : (other : List ℕ) → plantForm other ≡ Good f → SameNumbers f plant other → SameAnswers plant other
-  -- "With a product mounted, the first producing week pays its changeover", minutes or cents by their table: p is mounted, q comes first
-  pub first-changeover : (p : ℕ) → openingMounted (plantOf f plant .line) ≡ Product p → (w : ℕ) → w < f .weeks → EarlierShut f (planOf f plan) w
-      → (q : ℕ) → q < f .products → planOf f plan .line .first w q ≡ 1
-      → (table : ℕ → ℕ → ℕ) → changeoversUnder (f .products) table (planOf f plan .line .weekChangeover w) ≡ changeoverBetween table p q
+  -- "The second byte changes nothing yet": two files of kind 4 that agree but in their last byte. It does change something from request 2026-09 on
+  pub second-byte-unread : (other : List ℕ) → plantForm other ≡ Good f → f .kind ≡ 4
+      → ((j : ℕ) → j + 1 < length plant → getD other j 0 ≡ getD plant j 0) → SameAnswers plant other
+  -- "With a product mounted, the first producing week pays its changeover": p is mounted and q comes first. By the table of minutes rule 36 counts
+  -- it, by that of cents rule 41
+  pub first-changeover : (plan : List ℕ) → Passes plant plan → (p : ℕ) → openingMounted (plantOf f plant .line) ≡ Product p
+      → (w : ℕ) → w < f .weeks → EarlierShut f (planOf f plan) w → (q : ℕ) → q < f .products → planOf f plan .line .first w q ≡ 1
+      → (table : ℕ → ℕ → ℕ) → changeoversIn (f .products) table (planOf f plan .line) w
+      ≡ changeoversUnder (f .products) table (planOf f plan .line .changeover w) + changeoverBetween table p q
   -- "and its ZF row says so, in week 0 too"
-  pub first-passage : (p : ℕ) → openingMounted (plantOf f plant .line) ≡ Product p → (w : ℕ) → w < f .weeks → EarlierShut f (planOf f plan) w
+  pub first-passage : (plan : List ℕ) → Passes plant plan → (p : ℕ) → openingMounted (plantOf f plant .line) ≡ Product p
+      → (w : ℕ) → w < f .weeks → EarlierShut f (planOf f plan) w
       → (i j : ℕ) → i < f .products → j < f .products → planOf f plan .line .weekChangeover w i j ≡ is p i * planOf f plan .line .first w j
   -- "Kind 1 reads as 255 and 0."
   pub kind-one : f .kind ≡ 1 → (plantOf f plant .line .mounted ≡ 255) × (plantOf f plant .line .shutBefore ≡ 0)
@@ -81,9 +97,9 @@ pub record OpeningMounted (plant : List ℕ) (f : Shape) (plan : List ℕ) : Typ
       → sized s (plantLengths (shapeOf s)) ≡ true
       → ((shapeOf s .products ≤ mountedIn (shapeOf s) s) × (mountedIn (shapeOf s) s ≢ 255)) ⊎ (2 ≤ shutBeforeIn (shapeOf s) s)
       → plantForm s ≡ Refused 5
-  -- "Plans are compared with the machine begun from that mounted product": the third demand in its own words, over runs that begin so
-  pub opening-mounted : opening (plantOf f plant) .line .mounted ≡ openingMounted (plantOf f plant .line)
-  pub product-mounted : plantOf f plant .line .mounted < f .products → openingMounted (plantOf f plant .line) ≡ Product (plantOf f plant .line .mounted)
-  pub nothing-mounted : plantOf f plant .line .mounted ≡ 255 → openingMounted (plantOf f plant .line) ≡ Nothing
+  -- "Plans are compared with the machine begun from that mounted product": what the run begins with, and the third demand, which compares them
+  pub opening-mounted : plantOf f plant .line .mounted < f .products → opening (plantOf f plant) .line .mounted ≡ Product (plantOf f plant .line .mounted)
+  pub opening-nothing : plantOf f plant .line .mounted ≡ 255 → opening (plantOf f plant) .line .mounted ≡ Nothing
+  pub compared : (plan : List ℕ) → Bytes plan → ThirdDemand plant f plan
   -- the small plant with B mounted
   pub case-mounted : factOf mountedCase ≡ ran (Passed (record { 0 = pos 8150000 })) Continues

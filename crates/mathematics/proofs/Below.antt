@@ -108,6 +108,10 @@ and-three a b c h = let r = and-both (a && b) c h in let s = and-both a b (r .0)
 pub and-four : (a b c d : Bool) → (a && b && c && d) ≡ true → (a ≡ true) × (b ≡ true) × (c ≡ true) × (d ≡ true)
 and-four a b c d h = let r = and-both (a && b && c) d h in let s = and-three a b c (r .0) in (s .0, s .1, s .2, r .1)
 
+pub and-false : (a : Bool) → (a && false) ≡ false
+and-false true = refl
+and-false false = refl
+
 pub both-and : (a b : Bool) → a ≡ true → b ≡ true → (a && b) ≡ true
 both-and a b p q = cc
 

@@ -1,4 +1,5 @@
--- The small plant of paper 01, its slots and plans, and its thirteen cases, the last by request 2026-01. Assumes nothing.
+-- The small plant of paper 01, its slots and plans, its thirteen cases, the last by request 2026-01, and the case of request 2026-02. Assumes
+-- nothing.
 use Prim.Native.Nat.{ℕ, suc}
 use mathlib.Core.List.{List, [], _∷_}
 use lib.ListN.{getD}
@@ -20,7 +21,7 @@ row l i = getD l i 0
 abbrev pub table : List (List ℕ) → ℕ → ℕ → ℕ
 table l i j = row (getD l i []) j
 
--- A and B, with what is mounted before the first week and A's limit of storage
+-- A and B, in a kind of file, with what is mounted before the first week and A's limit of storage
 unfoldable pub smallPlantOf : (kind mounted limit : ℕ) → Plant
 smallPlantOf kind mounted limit =
     record {
@@ -48,6 +49,7 @@ smallPlantOf kind mounted limit =
       weekMinutes = 10080;
     }
 
+-- in kind 1, with nothing mounted
 unfoldable pub smallPlant : ℕ → Plant
 unfolding smallPlantOf
 smallPlant limit = smallPlantOf 1 nothingMounted limit

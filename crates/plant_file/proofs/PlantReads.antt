@@ -1,13 +1,13 @@
 -- What the rows that a good plant file has passed say of its layout. Assumes nothing.
 use Prim.Native.Nat.{ℕ, _≤_}
 use mathlib.Core.Path.{_≡_, refl, sym, ap, _∙_}
-use mathlib.Core.Bool.{Bool, true, false, _&&_}
+use mathlib.Core.Bool.{true, false}
 use mathlib.Core.List.{List}
 use native.Mathlib.Omega.{arith}
 use lib.ListN.{length, getD}
 use lib.Dec.{eqb}
 use borrow.Author.Tests.{eqb-true}
-use Rattle.mathematics.proofs.Below.{and-both}
+use Rattle.mathematics.proofs.Below.{and-both, and-false}
 use Rattle.contents.specs.Contents.{extent, placed, sized}
 use Rattle.contents.proofs.Facts.{headed-facts, placed-facts, fits}
 use Rattle.sections.specs.Section.{Holds, Laid}
@@ -19,11 +19,6 @@ use Rattle.plant_file.specs.Kinds.{plantKind, hasMounted, contentsOf}
 use Rattle.plant_file.specs.Form.{shapeOf, laidOut, inLimits, mountedLayout, plantLengths, mountedInRange, lineInRange, plantInRange}
 use Rattle.plant_file.specs.Form.{plantHeaded, plantForm}
 use Rattle.plant_file.proofs.PlantKinds.{kind-sections, kind-lengths}
-
--- no test holds beside one that fails
-pub and-no : (a : Bool) → (a && false) ≡ false
-and-no true = refl
-and-no false = refl
 
 -- row 1: long enough for its kind's contents
 pub plant-long : (s : List ℕ) → plantHeaded s ≡ true → contentsOf (getD s 0 0) ≤ length s
@@ -109,4 +104,4 @@ good-laid s f e = let g = plant-good s f e in plant-laid s f (g .kind) (g .head)
 pub outside-refused : (s : List ℕ) → plantHeaded s ≡ true → laidOut s ≡ true → inLimits (shapeOf s) ≡ true
     → sized s (plantLengths (shapeOf s)) ≡ true → mountedInRange s (shapeOf s) ≡ false → plantForm s ≡ Refused 5
 unfolding plantForm plantInRange lineInRange
-outside-refused s h l i z m = rw (h, l, i, z, m, and-no, and-no, and-no, and-no) refl
+outside-refused s h l i z m = rw (h, l, i, z, m, and-false, and-false, and-false, and-false) refl

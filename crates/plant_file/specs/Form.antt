@@ -15,7 +15,7 @@ use Rattle.sections.specs.declared.Form.{Form}
 use Rattle.sections.specs.declared.Form.the-variants.{Good}
 use Rattle.sections.specs.Limits.{mostProducts, mostCustomers, mostWeeks, mostRate, mostChangeoverMinutes, mostChangeoverCents, mostDemand}
 use Rattle.sections.specs.Limits.{mostUnitCost, mostStorage, nothingMounted, mostWeekMinutes}
-use Rattle.plant_file.specs.Kinds.{plantKind, hasMounted}
+use Rattle.plant_file.specs.Kinds.{plantKind, hasMounted, fileKind}
 use Rattle.plant_file.specs.Plant.{mountedIn, shutBeforeIn}
 
 -- the kind byte; section 1: N, C, W, a byte each
@@ -24,7 +24,7 @@ shapeOf s = record { kind = getD s 0 0; products = cell 1 s 0 0; customers = cel
 
 -- row 1: the kind's number, and sections 1 to as many as the kind has
 unfoldable pub plantHeaded : List ℕ → Bool
-plantHeaded s = headed s (plantKind (getD s 0 0) .number) 1 (plantKind (getD s 0 0) .sections)
+plantHeaded s = let k = fileKind (getD s 0 0) in headed s (k .number) (k .first) (k .sections)
 
 -- row 2: no body misplaced, and section 1 is 3 long
 unfoldable pub laidOut : List ℕ → Bool
@@ -54,6 +54,7 @@ layoutBefore f others =
     ∷ layout 2 1 2
     ∷ others
 
+-- sections 1 to 12
 abbrev pub plantLayout : Shape → List Layout
 plantLayout f = layoutBefore f (mountedLayout (f .kind))
 

@@ -1,8 +1,9 @@
 -- The kinds of plant file (request 2026-02): one table from the kind byte to what a kind has. That is its number, how many sections it has from
 -- section 1 on, the most grams of opening backlog, and whether the diagonals of sections 3 and 4 may be filled. Assumes nothing.
-use Prim.Native.Nat.{ℕ, _+_, _*_}
+use Prim.Native.Nat.{ℕ}
 use mathlib.Core.Bool.{Bool, false, cond}
 use lib.Dec.{eqb}
+use Rattle.sections.specs.Layout.{Kind, contentsLength}
 use Rattle.sections.specs.Limits.{mostOpeningBacklog}
 use Rattle.plant_file.specs.declared.PlantKind.{PlantKind}
 
@@ -22,6 +23,9 @@ plantKind kind = cond (eqb kind 4) kindFour kindOne
 unfoldable pub hasMounted : ℕ → Bool
 hasMounted kind = eqb (plantKind kind .sections) 12
 
--- the bytes of a kind's contents
+-- a kind of plant file as a kind of file, and the bytes of its contents
+abbrev pub fileKind : ℕ → Kind
+fileKind kind = record { number = plantKind kind .number; first = 1; sections = plantKind kind .sections }
+
 abbrev pub contentsOf : ℕ → ℕ
-contentsOf kind = 2 + 9 * plantKind kind .sections
+contentsOf kind = contentsLength (fileKind kind)

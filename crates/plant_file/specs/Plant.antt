@@ -1,5 +1,5 @@
--- The numbers of a plant file, section by section, as paper 01 lists them under "Files". Products, customers and weeks count from 0.
--- Assumes nothing.
+-- The numbers of a plant file, section by section, as paper 01 lists them under "Files", and section 12 as request 2026-02 has it. Products,
+-- customers and weeks count from 0. Assumes nothing.
 use Prim.Native.Nat.{ℕ, _+_, _*_}
 use mathlib.Core.Bool.{cond}
 use mathlib.Core.List.{List}
@@ -20,6 +20,7 @@ pub record LinePlant : Type 0 where
   pub shutBefore : ℕ
 
 pub record Plant : Type 0 where
+  -- 1 or 4
   pub kind : ℕ
   pub products : ℕ
   pub customers : ℕ

@@ -1,4 +1,4 @@
--- Every range of a plant's numbers, as paper 01 lists them under "Files". Assumes nothing.
+-- Every range of a plant's numbers, as paper 01 lists them under "Files", and of section 12 as request 2026-02 has it. Assumes nothing.
 use Prim.Native.Nat.{ℕ, _≤_, _<_}
 use mathlib.Core.Path.{_≡_}
 use mathlib.Core.Logic.{_⊎_}

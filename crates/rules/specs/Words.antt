@@ -18,7 +18,7 @@ use Rattle.rules.specs.declared.Verdict.{Verdict}
 abbrev pub noPassage : ℕ → LinePlan → ℕ → Bool
 noPassage N x w = allBelow N (λ i. allBelow N (λ j. eqb (x .weekChangeover w i j) 0))
 
--- "into j it sums to F of j, out of i to" 1 at one product
+-- "into j it sums to F of j, out of i to" `from` i, which is 1 at one product and else 0
 abbrev pub passageFrom : ℕ → LinePlan → (from : ℕ → ℕ) (w : ℕ) → Bool
 passageFrom N x from w =
     allBelow N (λ j. eqb (sumBelow N (λ i. x .weekChangeover w i j)) (x .first w j))

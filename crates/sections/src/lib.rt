@@ -1,4 +1,4 @@
-// What the three kinds of file share: the answer of a file's rows, and tests on the numbers of a section.
+// What plant, plan and slot files share: the answer of a file's rows, and tests on the numbers of a section.
 ghost use mathlib.Core.Path.{_≡_};
 ghost use Prim.Native.Nat.{_+_, _*_, _^_, _≤_, _<_};
 ghost use lib.ListN.{length};

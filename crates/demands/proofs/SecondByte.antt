@@ -1,0 +1,108 @@
+-- Two accepted plant files of kind 4 that agree in every byte but the last, section 12's second, have the same numbers. Assumes nothing.
+use Prim.Native.Nat.{ℕ, zero, suc, _+_, _*_, _≤_, _<_}
+use mathlib.Core.Path.{_≡_, refl, ap, _∙_}
+use mathlib.Core.Bool.{true, cond}
+use mathlib.Core.List.{List}
+use native.Mathlib.Omega.{arith}
+use lib.ListN.{length, getD}
+use Rattle.mathematics.proofs.Below.{sum-prefix}
+use Rattle.mathematics.proofs.Join.{table-below}
+use Rattle.numbers.specs.Number.{numberAt}
+use Rattle.numbers.proofs.Number.{room}
+use Rattle.contents.specs.Contents.{entryAt, entry, offset, extent, cell}
+use Rattle.contents.proofs.Facts.{Placed, placed-facts, offset-sum}
+use Rattle.sections.specs.Section.{Laid}
+use Rattle.sections.specs.declared.Shape.{Shape}
+use Rattle.sections.specs.declared.Form.the-variants.{Good}
+use Rattle.sections.specs.Limits.{nothingMounted}
+use Rattle.sections.proofs.Rows.{laid-extent}
+use Rattle.sections.proofs.Tables.{cube-below}
+use Rattle.plant_file.specs.Plant.{rateIn, changeoverMinutesIn, changeoverCentsIn, demandIn, priceIn, backlogCostIn, inventoryCostIn}
+use Rattle.plant_file.specs.Plant.{leastStorageIn, greatestStorageIn, openingInventoryIn, openingBacklogIn, shortestRunIn, weekMinutesIn, mountedIn}
+use Rattle.plant_file.specs.Kinds.{plantKind, hasMounted}
+use Rattle.plant_file.specs.Form.{plantLengths, plantForm}
+use Rattle.plant_file.proofs.PlantKinds.{kind-lengths}
+use Rattle.plant_file.proofs.PlantReads.{good-laid}
+use Rattle.demands.specs.OpeningMounted.{SameNumbers}
+
+-- a number is the same where the bytes up to its end are
+number-same : (k : ℕ) (a b : List ℕ) (from : ℕ) → ((j : ℕ) → j < from + k → getD b j 0 ≡ getD a j 0) → numberAt k a from ≡ numberAt k b from
+number-same zero a b from h = refl
+number-same (suc k) a b from h = omega (arith, h from (omega arith), number-same k a b (from + 1) (λ j l. h j (omega arith)))
+
+-- each body before the last ends by where the last begins
+ends-before : (s : List ℕ) (n : ℕ) → Placed s (suc n) → (i : ℕ) → i < n → offset s i + extent s i ≤ offset s n
+ends-before s n h i l =
+    omega (
+      arith,
+      offset-sum s (suc n) h i (omega arith),
+      offset-sum s (suc n) h n (omega arith),
+      sum-prefix n (extent s) (suc i) l,
+    )
+
+-- ---- two files that agree but in the last byte; the bodies of the first, n and one more, have these lengths
+module _ {a lengths : List ℕ} (b : List ℕ) (n : ℕ) (laid : Laid a lengths) (count : length lengths ≡ suc n)
+    (agree : (j : ℕ) → j + 1 < length a → getD b j 0 ≡ getD a j 0) where
+  lies : Placed a (suc n)
+  lies = placed-facts a (suc n) (rw count at (laid .lies))
+
+  last-ends : offset a n + getD lengths n 0 ≡ length a
+  last-ends = let e : offset a n + extent a n ≡ length a = lies .ends in omega (arith, laid-extent laid n (omega (arith, count)))
+
+  -- the last byte lies behind the contents
+  offset-same : (i : ℕ) → i ≤ n → offset a i ≡ offset b i
+  unfolding entry entryAt
+  offset-same i l = number-same 4 a b (2 + 9 * i + 1) (λ j m. agree j (omega (arith, count, laid .long)))
+
+  cell-same : (k i j : ℕ) → i ≤ n → offset a i + k * j + k < length a → cell k a i j ≡ cell k b i j
+  unfolding cell
+  cell-same k i j l h =
+      number-same k a b (offset a i + k * j) (λ q m. agree q (omega arith))
+      ∙ ap (λ (from : ℕ). numberAt k b (from + k * j)) (offset-same i l)
+
+  -- number j of the m that a section before the last has room for
+  section-same : 1 ≤ getD lengths n 0 → (k i m j : ℕ) → i < n → k * m ≤ getD lengths i 0 → j < m → cell k a i j ≡ cell k b i j
+  section-same some k i m j l h r =
+      cell-same k i j (omega arith)
+      (omega (arith, ends-before a n lies i l, last-ends, laid-extent laid i (omega (arith, count)), room k r))
+
+  first-same : 2 ≤ getD lengths n 0 → cell 1 a n 0 ≡ cell 1 b n 0
+  first-same more = cell-same 1 n 0 (omega arith) (omega (arith, last-ends))
+
+-- ---- plant files of kind 4: twelve lengths, the last of them 2
+pub has-section : (kind : ℕ) → kind ≡ 4 → hasMounted kind ≡ true
+unfolding hasMounted plantKind
+has-section kind e = rw e refl
+
+lengths-count : (f : Shape) → f .kind ≡ 4 → length (plantLengths f) ≡ 12
+unfolding plantKind
+lengths-count f e = kind-lengths f ∙ ap (λ (kind : ℕ). plantKind kind .sections) e
+
+-- the first file's rows are enough: the other's contents are the same
+pub same-numbers : (f : Shape) (a b : List ℕ) → plantForm a ≡ Good f → f .kind ≡ 4 → ((j : ℕ) → j + 1 < length a → getD b j 0 ≡ getD a j 0)
+    → SameNumbers f a b
+unfolding rateIn changeoverMinutesIn changeoverCentsIn demandIn priceIn backlogCostIn inventoryCostIn leastStorageIn greatestStorageIn openingInventoryIn openingBacklogIn shortestRunIn weekMinutesIn mountedIn
+same-numbers f a b good four agree =
+    let n = f .products in
+    let cn = f .customers * n in
+    let two : getD (plantLengths f) 11 0 ≡ 2 = rw (has-section (f .kind) four) refl in
+    let laid = good-laid a f good in
+    let count = lengths-count f four in
+    let same = section-same b 11 laid count agree (omega arith) in
+    let first = first-same b 11 laid count agree (omega arith) in
+    record {
+      rate = λ i l. same 4 1 n i (omega arith) (omega arith) l;
+      changeoverMinutes = λ i j l m. same 2 2 (n * n) (i * n + j) (omega arith) (omega arith) (table-below l m);
+      changeoverCents = λ i j l m. same 4 3 (n * n) (i * n + j) (omega arith) (omega arith) (table-below l m);
+      mounted = ap (λ (x : ℕ). cond (hasMounted (f .kind)) x nothingMounted) first;
+      demand = λ c i w x y z. same 4 4 (cn * f .weeks) ((c * n + i) * f .weeks + w) (omega arith) (omega arith) (cube-below x y z);
+      price = λ c i x y. same 4 5 cn (c * n + i) (omega arith) (omega arith) (table-below x y);
+      backlogCost = λ c i x y. same 4 6 cn (c * n + i) (omega arith) (omega arith) (table-below x y);
+      inventoryCost = λ i l. same 4 7 n i (omega arith) (omega arith) l;
+      leastStorage = λ i l. same 4 8 (2 * n) (2 * i) (omega arith) (omega arith) (omega arith);
+      greatestStorage = λ i l. same 4 8 (2 * n) (2 * i + 1) (omega arith) (omega arith) (omega arith);
+      openingInventory = λ i l. same 4 9 n i (omega arith) (omega arith) l;
+      openingBacklog = λ c i x y. same 4 9 (n + cn) (n + (c * n + i)) (omega arith) (omega arith) (omega (arith, table-below {m = f .customers} x y));
+      shortestRun = same 2 10 2 0 (omega arith) (omega arith) (omega arith);
+      weekMinutes = same 2 10 2 1 (omega arith) (omega arith) (omega arith);
+    }

@@ -1,4 +1,5 @@
 pub mod SameRuns
+pub mod SameNumbers
 pub mod SameVerdicts
 pub mod SamePlants
 pub mod SecondByte

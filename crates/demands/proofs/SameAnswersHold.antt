@@ -27,7 +27,8 @@ use Rattle.passed_plan.proofs.PassedPlan.{judged-passing, passed-plan}
 use Rattle.calls.specs.Check.{checkFrom, checkOf}
 use Rattle.calls.specs.Answer.{bytes, formAnswer, judgedAnswer, runAnswer, slotAnswer, planAnswer}
 use Rattle.report.specs.Report.{firstLine, linesOf, reportText}
-use Rattle.demands.specs.OpeningMounted.{SameNumbers, SameAnswers}
+use Rattle.demands.specs.OpeningMounted.{SameAnswers}
+use Rattle.demands.proofs.SameNumbers.{SameNumbers}
 use Rattle.demands.proofs.SameVerdicts.{verdict-same}
 use Rattle.demands.proofs.SamePlants.{same-run, same-tables, same-lines}
 

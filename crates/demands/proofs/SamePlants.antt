@@ -37,7 +37,7 @@ use Rattle.model.specs.Match.{Formed}
 use Rattle.model.proofs.Grids.{grid-ext}
 use Rattle.model.proofs.RunStates.{mounted-below}
 use Rattle.report.specs.Report.{slotLines, weekLines}
-use Rattle.demands.specs.OpeningMounted.{SameNumbers}
+use Rattle.demands.proofs.SameNumbers.{SameNumbers}
 use Rattle.demands.proofs.SameRuns.{rows-ext, backlog-same, due-same}
 
 -- ---- two steps that stop alike, or else go on at the state s

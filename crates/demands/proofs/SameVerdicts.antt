@@ -21,7 +21,7 @@ use Rattle.rules.specs.Rules.{revenueIn, changeoverChargeIn, backlogChargeIn, i
 use Rattle.rules.specs.Rules.{rule33, rule35, rule36, rule37, rule38, rule39, rule40, rule41}
 use Rattle.rules.specs.Verdict.{trials, tried, profitTried, verdictOf}
 use Rattle.model.proofs.Grids.{grid-ext}
-use Rattle.demands.specs.OpeningMounted.{SameNumbers}
+use Rattle.demands.proofs.SameNumbers.{SameNumbers}
 
 module _ (f : Shape) (a b : List ℕ) (same : SameNumbers f a b) (x : Plan) where
   abbrev P : Plant

@@ -23,7 +23,7 @@ use Rattle.plant_file.specs.Kinds.{plantKind, hasMounted}
 use Rattle.plant_file.specs.Form.{plantLengths, plantForm}
 use Rattle.plant_file.proofs.PlantKinds.{kind-lengths}
 use Rattle.plant_file.proofs.PlantReads.{good-laid}
-use Rattle.demands.specs.OpeningMounted.{SameNumbers}
+use Rattle.demands.proofs.SameNumbers.{SameNumbers}
 
 -- a number is the same where the bytes up to its end are
 number-same : (k : ℕ) (a b : List ℕ) (from : ℕ) → ((j : ℕ) → j < from + k → getD b j 0 ≡ getD a j 0) → numberAt k a from ≡ numberAt k b from

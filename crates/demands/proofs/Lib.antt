@@ -1,8 +1,6 @@
 pub mod SameRuns
-pub mod SameNumbers
 pub mod SameVerdicts
 pub mod SamePlants
-pub mod SecondByte
 pub mod SameAnswersHold
 pub mod ThirdDemandHolds
 pub mod OtherDemandsHold

@@ -2,25 +2,23 @@
 use Prim.Native.Nat.{ℕ, _+_, _*_, _<_, _≤_}
 use mathlib.Core.Path.{_≡_, refl, sym, ap, _∙_}
 use mathlib.Core.Logic.{_⊎_, _≢_, inl, inr}
-use mathlib.Core.Bool.{Bool, true, false, _&&_}
+use mathlib.Core.Bool.{false, _&&_}
 use mathlib.Core.List.{List, [], _∷_}
 use native.Mathlib.Omega.{arith}
-use lib.ListN.{getD}
 use lib.Dec.{leb}
 use borrow.Author.Tests.{eq-eqb, ne-eqb, le-ltb, lt-leb}
 use Rattle.mathematics.specs.Below.{is}
 use Rattle.mathematics.specs.Order.{firstIn}
 use Rattle.mathematics.proofs.Below.{and-false, is-eq}
 use Rattle.numbers.specs.Number.{Bytes}
-use Rattle.contents.proofs.Facts.{headed-facts}
 use Rattle.sections.specs.declared.Shape.{Shape}
-use Rattle.sections.specs.declared.Form.the-variants.{Good, Refused}
+use Rattle.sections.specs.declared.Form.the-variants.{Good}
 use Rattle.plant_file.specs.Plant.{plantOf, mountedIn, shutBeforeIn}
-use Rattle.plant_file.specs.Kinds.{plantKind, hasMounted}
-use Rattle.plant_file.specs.Form.{plantHeaded, mountedKnown, mountedInRange, plantForm}
+use Rattle.plant_file.specs.Form.{mountedKnown, mountedInRange, plantForm}
 use Rattle.plant_file.specs.Ranges.{PlantRanges}
-use Rattle.plant_file.proofs.PlantKinds.{each-kind}
-use Rattle.plant_file.proofs.PlantReads.{plant-good, outside-refused}
+use Rattle.plant_file.proofs.PlantKinds.{has-none}
+use Rattle.plant_file.proofs.PlantReads.{plant-good, headed-kinds, other-pair, outside-refused}
+use Rattle.plant_file.proofs.SamePlantFiles.{section-bytes, same-numbers}
 use Rattle.plant_file.proofs.PlantInRange.{plant-ranges}
 use Rattle.plan_file.specs.Plan.{Plan, planOf}
 use Rattle.slot_file.specs.Slots.{orderOfSlots, slotsOf}
@@ -39,37 +37,9 @@ use Rattle.demands.specs.ThirdDemand.{GivesFile}
 use Rattle.demands.specs.OpeningMounted.{Passes, EarlierShut, OpeningMounted}
 use Rattle.demands.proofs.ThirdDemandHolds.{given, third-demand}
 use Rattle.demands.proofs.ShutWeeksHold.{opening-passage}
-use Rattle.demands.proofs.SecondByte.{has-section, same-numbers}
 use Rattle.demands.proofs.SameAnswersHold.{same-answers}
 
 -- ---- a plant file
--- what row 1 compares
-headed-kinds : (s : List ℕ) → plantHeaded s ≡ true
-    → ((getD s 0 0 ≡ 1) × (getD s 1 0 ≡ 11)) ⊎ ((getD s 0 0 ≡ 4) × (getD s 1 0 ≡ 12))
-unfolding plantHeaded
-headed-kinds s h =
-    let k = plantKind (getD s 0 0) in
-    let g = headed-facts s (k .number) 1 (k .sections) h in
-    each-kind
-    (λ k. getD s 0 0 ≡ k .number → getD s 1 0 ≡ k .sections → ((getD s 0 0 ≡ 1) × (getD s 1 0 ≡ 11)) ⊎ ((getD s 0 0 ≡ 4) × (getD s 1 0 ≡ 12)))
-    (λ a b. inl (a, b)) (λ a b. inr (a, b)) (getD s 0 0) (g .kinds) (g .counts)
-
-other-pair : (s : List ℕ) → ((getD s 0 0 ≡ 1) × (getD s 1 0 ≡ 11) → ⊥) → ((getD s 0 0 ≡ 4) × (getD s 1 0 ≡ 12) → ⊥) → plantForm s ≡ Refused 1
-unfolding plantForm
-other-pair s one four = go (plantHeaded s) refl
-  where
-    go : (t : Bool) → plantHeaded s ≡ t → plantForm s ≡ Refused 1
-    go true e = absurd (elim (headed-kinds s e) [ inl h ↦ one h | inr h ↦ four h ])
-    go false e = rw e refl
-
-kinds : (plant : List ℕ) (f : Shape) → plantForm plant ≡ Good f
-    → ((f .kind ≡ 1) × (getD plant 1 0 ≡ 11)) ⊎ ((f .kind ≡ 4) × (getD plant 1 0 ≡ 12))
-kinds plant f accepted = let g = plant-good plant f accepted in rw (← (g .kind)) (headed-kinds plant (g .head))
-
-has-none : (kind : ℕ) → kind ≡ 1 → hasMounted kind ≡ false
-unfolding hasMounted plantKind
-has-none kind e = rw e refl
-
 -- section 12 outside its values
 outside : (N m b : ℕ) → ((N ≤ m) × (m ≢ 255)) ⊎ (2 ≤ b) → (leb b 1 && mountedKnown N m) ≡ false
 unfolding mountedKnown
@@ -122,14 +92,18 @@ opening-mounted plant f accepted =
     let R = plant-ranges plant f accepted in
     record {
       kind = sym (plant-good plant f accepted .kind);
-      kinds = kinds plant f accepted;
+      kinds = rw (← (plant-good plant f accepted .kind)) (headed-kinds plant (plant-good plant f accepted .head));
       other-pair-is-1 = other-pair;
-      section-12 = λ e. (rw (has-section (f .kind) e) refl, rw (has-section (f .kind) e) refl);
+      section-12 = section-bytes f plant accepted;
       mounted-known = R .line .mounted-known;
       shut-before-most = R .line .shut-before-most;
       second-byte-unread = λ other good e h. same-answers f plant other accepted good (same-numbers f plant other accepted e h);
-      first-changeover = λ plan h. let r = given-slots plant f accepted plan h in first-changeover plant f accepted plan (h .bytes) (r .0) (r .1) (r .2);
-      first-passage = λ plan h p o. let r = given-slots plant f accepted plan h in opening-passage plant f accepted plan (h .bytes) (r .0) (r .1) (r .2) (Product p) o;
+      first-changeover = λ plan h.
+          let r = given-slots plant f accepted plan h in
+          first-changeover plant f accepted plan (h .bytes) (r .0) (r .1) (r .2);
+      first-passage = λ plan h p.
+          let r = given-slots plant f accepted plan h in
+          opening-passage plant f accepted plan (h .bytes) (r .0) (r .1) (r .2) (Product p);
       kind-one = λ e. (rw (has-none (f .kind) e) refl, rw (has-none (f .kind) e) refl);
       outside-is-5 = λ t h l i z o. outside-refused t h l i z (outside _ _ _ o);
       opening-mounted = λ l. rw (ne-eqb (plantOf f plant .line .mounted) 255 (λ e. absurd (omega (arith, l, e, R .products-most)))) refl;

@@ -6,6 +6,7 @@ use Rattle.numbers.specs.Number.{Bytes}
 use Rattle.sections.specs.declared.Shape.{Shape}
 use Rattle.sections.specs.declared.Form.{Form}
 use Rattle.sections.specs.declared.Form.the-variants as form
+use Rattle.plant_file.proofs.SamePlantFiles.{SameNumbers}
 use Rattle.plant_file.specs.Plant.{plantOf}
 use Rattle.plant_file.specs.Form.{plantForm}
 use Rattle.plan_file.specs.Plan.{planOf}
@@ -28,7 +29,6 @@ use Rattle.calls.specs.Check.{checkFrom, checkOf}
 use Rattle.calls.specs.Answer.{bytes, formAnswer, judgedAnswer, runAnswer, slotAnswer, planAnswer}
 use Rattle.report.specs.Report.{firstLine, linesOf, reportText}
 use Rattle.demands.specs.OpeningMounted.{SameAnswers}
-use Rattle.demands.proofs.SameNumbers.{SameNumbers}
 use Rattle.demands.proofs.SameVerdicts.{verdict-same}
 use Rattle.demands.proofs.SamePlants.{same-run, same-tables, same-lines}
 

@@ -12,6 +12,7 @@ use Rattle.mathematics.proofs.Tables.{all-ext}
 use Rattle.mathematics.proofs.Join.{join-ext}
 use Rattle.sections.specs.declared.Shape.{Shape}
 use Rattle.sections.specs.declared.Form.the-variants.{Good}
+use Rattle.plant_file.proofs.SamePlantFiles.{SameNumbers}
 use Rattle.plant_file.specs.Plant.{Plant, plantOf}
 use Rattle.plant_file.specs.Form.{plantForm}
 use Rattle.plant_file.proofs.PlantInRange.{plant-ranges}
@@ -37,7 +38,6 @@ use Rattle.model.specs.Match.{Formed}
 use Rattle.model.proofs.Grids.{grid-ext}
 use Rattle.model.proofs.RunStates.{mounted-below}
 use Rattle.report.specs.Report.{slotLines, weekLines}
-use Rattle.demands.proofs.SameNumbers.{SameNumbers}
 use Rattle.demands.proofs.SameRuns.{rows-ext, backlog-same, due-same}
 
 -- ---- two steps that stop alike, or else go on at the state s

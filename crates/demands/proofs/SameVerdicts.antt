@@ -10,6 +10,7 @@ use Rattle.mathematics.proofs.Below.{sum-ext}
 use Rattle.mathematics.proofs.Tables.{all-ext}
 use Rattle.sections.specs.declared.Shape.{Shape}
 use Rattle.sections.specs.Limits.{nothingMounted}
+use Rattle.plant_file.proofs.SamePlantFiles.{SameNumbers}
 use Rattle.plant_file.specs.Plant.{Plant, plantOf}
 use Rattle.plan_file.specs.Plan.{Plan}
 use Rattle.costs.specs.declared.Mounted.the-variants.{Nothing, Product}
@@ -21,7 +22,6 @@ use Rattle.rules.specs.Rules.{revenueIn, changeoverChargeIn, backlogChargeIn, i
 use Rattle.rules.specs.Rules.{rule33, rule35, rule36, rule37, rule38, rule39, rule40, rule41}
 use Rattle.rules.specs.Verdict.{trials, tried, profitTried, verdictOf}
 use Rattle.model.proofs.Grids.{grid-ext}
-use Rattle.demands.proofs.SameNumbers.{SameNumbers}
 
 module _ (f : Shape) (a b : List ℕ) (same : SameNumbers f a b) (x : Plan) where
   abbrev P : Plant

@@ -1,6 +1,6 @@
 -- REQUEST 2026-02, WHAT IS MOUNTED ON MONDAY, over the calls' own definitions: the claim for one accepted plant file.
 -- Each sentence of the request is a field, or a few. Assumes nothing.
-use Prim.Native.Nat.{ℕ, _+_, _*_, _≤_, _<_}
+use Prim.Native.Nat.{ℕ, _+_, _*_, _-_, _≤_, _<_}
 use mathlib.Core.Path.{_≡_}
 use mathlib.Core.Logic.{_⊎_, _≢_}
 use mathlib.Core.Bool.{true}
@@ -9,7 +9,7 @@ use lib.ListN.{length, getD}
 use lib.IntN.{pos}
 use Rattle.mathematics.specs.Below.{is}
 use Rattle.numbers.specs.Number.{Bytes}
-use Rattle.contents.specs.Contents.{cell, sized}
+use Rattle.contents.specs.Contents.{sized}
 use Rattle.sections.specs.declared.Shape.{Shape}
 use Rattle.sections.specs.declared.Form.the-variants.{Good, Refused}
 use Rattle.plant_file.specs.Plant.{plantOf, mountedIn, shutBeforeIn}
@@ -54,8 +54,9 @@ pub record OpeningMounted (plant : List ℕ) (f : Shape) : Type 0 where
   pub kinds : ((f .kind ≡ 1) × (getD plant 1 0 ≡ 11)) ⊎ ((f .kind ≡ 4) × (getD plant 1 0 ≡ 12))
   -- any other pair is a 1
   pub other-pair-is-1 : (s : List ℕ) → ((getD s 0 0 ≡ 1) × (getD s 1 0 ≡ 11) → ⊥) → ((getD s 0 0 ≡ 4) × (getD s 1 0 ≡ 12) → ⊥) → plantForm s ≡ Refused 1
-  -- "the mounted product or 255 for none, then one byte, 1 if the week before the horizon was shut, else 0"
-  pub section-12 : f .kind ≡ 4 → (plantOf f plant .line .mounted ≡ cell 1 plant 11 0) × (plantOf f plant .line .shutBefore ≡ cell 1 plant 11 1)
+  -- "the mounted product or 255 for none, then one byte, 1 if the week before the horizon was shut, else 0": the file's last two bytes
+  pub section-12 : f .kind ≡ 4
+      → (plantOf f plant .line .mounted ≡ getD plant (length plant - 2) 0) × (plantOf f plant .line .shutBefore ≡ getD plant (length plant - 1) 0)
   pub mounted-known : (plantOf f plant .line .mounted < f .products) ⊎ (plantOf f plant .line .mounted ≡ 255)
   pub shut-before-most : plantOf f plant .line .shutBefore ≤ 1
   -- "The second byte changes nothing yet": two files of kind 4 that agree but in their last byte. It does change something from request 2026-09 on

@@ -151,7 +151,8 @@ module _ (P : Plant) (S : Slots) where
   ran-clock w = omega (arith, slots-clock (P .line) (S .line .week w) (weekBegin (after P S w)))
 
   -- the profit so far
-  ran-profit : LineRanges (P .products) (P .line) → (n : ℕ) → FormedTo (suc n) → ran n .profit .0 ≡ after P S n .profit .0 -ℤ pos (changeoverChargeIn P (runTables P S) n)
+  ran-profit : LineRanges (P .products) (P .line) → (n : ℕ) → FormedTo (suc n)
+      → ran n .profit .0 ≡ after P S n .profit .0 -ℤ pos (changeoverChargeIn P (runTables P S) n)
   unfolding ranWeek weekBegin withLine withWeek changeoverChargeIn runTables
   ran-profit R n f =
       slots-profit (P .line) (S .line .week n) (weekBegin (after P S n))

@@ -3,3 +3,4 @@ pub mod Cells
 pub mod PlantReads
 pub mod PlantInRange
 pub mod PlantAccess
+pub mod SamePlantFiles

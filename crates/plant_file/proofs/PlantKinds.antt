@@ -39,3 +39,12 @@ kind-lengths f =
       arith,
       each-kind (λ k. 11 + length (lengthsOf (cond (eqb (k .sections) 12) (layout 1 1 2 ∷ []) [])) ≡ k .sections) refl refl (f .kind),
     )
+
+-- which kind has section 12
+pub has-section : (kind : ℕ) → kind ≡ 4 → hasMounted kind ≡ true
+unfolding hasMounted plantKind
+has-section kind e = rw e refl
+
+pub has-none : (kind : ℕ) → kind ≡ 1 → hasMounted kind ≡ false
+unfolding hasMounted plantKind
+has-none kind e = rw e refl

@@ -1,7 +1,8 @@
 -- What the rows that a good plant file has passed say of its layout. Assumes nothing.
 use Prim.Native.Nat.{ℕ, _≤_}
 use mathlib.Core.Path.{_≡_, refl, sym, ap, _∙_}
-use mathlib.Core.Bool.{true, false}
+use mathlib.Core.Logic.{_⊎_, inl, inr}
+use mathlib.Core.Bool.{Bool, true, false}
 use mathlib.Core.List.{List}
 use native.Mathlib.Omega.{arith}
 use lib.ListN.{length, getD}
@@ -18,7 +19,7 @@ use Rattle.sections.proofs.Rows.{row-good, laid-holds, width1}
 use Rattle.plant_file.specs.Kinds.{plantKind, hasMounted, contentsOf}
 use Rattle.plant_file.specs.Form.{shapeOf, laidOut, inLimits, mountedLayout, plantLengths, mountedInRange, lineInRange, plantInRange}
 use Rattle.plant_file.specs.Form.{plantHeaded, plantForm}
-use Rattle.plant_file.proofs.PlantKinds.{kind-sections, kind-lengths}
+use Rattle.plant_file.proofs.PlantKinds.{each-kind, kind-sections, kind-lengths}
 
 -- row 1: long enough for its kind's contents
 pub plant-long : (s : List ℕ) → plantHeaded s ≡ true → contentsOf (getD s 0 0) ≤ length s
@@ -105,3 +106,22 @@ pub outside-refused : (s : List ℕ) → plantHeaded s ≡ true → laidOut s �
     → sized s (plantLengths (shapeOf s)) ≡ true → mountedInRange s (shapeOf s) ≡ false → plantForm s ≡ Refused 5
 unfolding plantForm plantInRange lineInRange
 outside-refused s h l i z m = rw (h, l, i, z, m, and-false, and-false, and-false, and-false) refl
+
+-- what row 1 compares: the pair of kind and count
+pub headed-kinds : (s : List ℕ) → plantHeaded s ≡ true
+    → ((getD s 0 0 ≡ 1) × (getD s 1 0 ≡ 11)) ⊎ ((getD s 0 0 ≡ 4) × (getD s 1 0 ≡ 12))
+unfolding plantHeaded
+headed-kinds s h =
+    let k = plantKind (getD s 0 0) in
+    let g = headed-facts s (k .number) 1 (k .sections) h in
+    each-kind
+    (λ k. getD s 0 0 ≡ k .number → getD s 1 0 ≡ k .sections → ((getD s 0 0 ≡ 1) × (getD s 1 0 ≡ 11)) ⊎ ((getD s 0 0 ≡ 4) × (getD s 1 0 ≡ 12)))
+    (λ a b. inl (a, b)) (λ a b. inr (a, b)) (getD s 0 0) (g .kinds) (g .counts)
+
+pub other-pair : (s : List ℕ) → ((getD s 0 0 ≡ 1) × (getD s 1 0 ≡ 11) → ⊥) → ((getD s 0 0 ≡ 4) × (getD s 1 0 ≡ 12) → ⊥) → plantForm s ≡ Refused 1
+unfolding plantForm
+other-pair s one four = go (plantHeaded s) refl
+  where
+    go : (t : Bool) → plantHeaded s ≡ t → plantForm s ≡ Refused 1
+    go true e = absurd (elim (headed-kinds s e) [ inl h ↦ one h | inr h ↦ four h ])
+    go false e = rw e refl

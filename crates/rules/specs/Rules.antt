@@ -33,7 +33,8 @@ unfoldable pub mountedBefore : ℕ → LinePlant → LinePlan → ℕ → ℕ �
 mountedBefore N l x w = mountedAfter l x (productionEnd N x w)
 
 -- 33, by requests 2026-01 and 2026-02: into j ZF sums to F of j, out of i to L of i in the last producing week before, or to 1 at the plant's own
--- product where there is no such week, each sum where something is mounted before the week and the week has a first product. Behind rule 31 these are the paper's sums: the law `same-verdict`
+-- product where there is no such week, each sum where something is mounted before the week and the week has a first product. Behind rule 31
+-- these are the paper's sums: the law `same-verdict`
 unfoldable pub rule33 : ℕ → LinePlant → LinePlan → ℕ → Bool
 rule33 N l x w =
     allBelow N (λ j. eqb (sumBelow N (λ i. x .weekChangeover w i j)) (x .first w j * sumBelow N (mountedBefore N l x w)))

@@ -34,8 +34,10 @@ is-binary-spec =
     (tie.spec
     (λ c κs. search needs) (λ c κs. search needs)
     (λ c κs. holds (c .before .before .before .args .f) (c .before .before .before .pre) _ (omega arith) width1 refl (c .before .area .ensures .0))
-    (λ c κs. let k = c .before in holds (k .before .before .before .args .f) (k .before .before .before .pre) _ (omega arith) width1 refl (k .before .area .ensures .0))
-    (λ c κs. let k = c .before .before in holds (k .before .before .before .args .f) (k .before .before .before .pre) _ (omega arith) width1 refl (k .before .area .ensures .0))
+    (λ c κs. let k = c .before in
+    holds (k .before .before .before .args .f) (k .before .before .before .pre) _ (omega arith) width1 refl (k .before .area .ensures .0))
+    (λ c κs. let k = c .before .before in
+    holds (k .before .before .before .args .f) (k .before .before .before .pre) _ (omega arith) width1 refl (k .before .area .ensures .0))
     (λ c κs. let k = c .before .before .before in
     holds (k .before .before .before .args .f) (k .before .before .before .pre) _ (omega arith) width1 (sym (table-rows 1 _ _ _)) (k .volume .ensures .0))
     (λ c κs. let k = c .before .before .before .before in

@@ -45,6 +45,11 @@ eleven c =
     ∷ 4
     ∷ [])
 
+is-sized-requires : tie.Need-is-sized-requires
+is-sized-requires c κs =
+    let s = c .before .before .before .before .before .before in
+    (omega (arith, kind-sections (s .args .f .kind) .0, s .pre), omega arith)
+
 -- section 12 is listed where the kind has it
 entry-in-requires : tie.Need-entry-in-requires
 unfolding hasMounted
@@ -70,7 +75,7 @@ has-lengths-spec =
     (λ c κs. search needs) (λ c κs. search needs) (λ c κs. search needs) (λ c κs. search needs) (λ c. search needs) (λ c. search needs)
     (λ c. search needs) (λ c. search needs) (λ c. search needs) (λ c. search needs) (λ c. search needs) (λ c. search needs) (λ c. search needs)
     (λ c. search needs) (λ c. search needs) (λ c. search needs)
-    (λ c κs. (omega (arith, kind-sections (c .before .before .before .before .before .before .args .f .kind) .0, c .before .before .before .before .before .before .pre), omega arith))
+    is-sized-requires
     (λ c κs. search needs)
     entry-in-requires
     (λ c κs. search needs)

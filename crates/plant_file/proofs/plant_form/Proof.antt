@@ -71,6 +71,12 @@ returns-5 c = rw (only-row5 (c .before .before), sym (c .before .is-in-range .en
 returns-6 : tie.Need-returns-6
 returns-6 c = rw (only-row5 (c .before .before), sym (c .before .is-in-range .ensures) ∙ not-false _ (c .if5 .left))
 
+-- rows 1, 2 and 4 passed
+is-in-range-requires : tie.Need-is-in-range-requires
+is-in-range-requires c κs =
+    let k = c .before .before .before .before in
+    plant-laid _ _ (kind-is k) (row1 (k .before .before .before)) (row2 (k .before)) (row4 c)
+
 pub plant-form-spec : {M : Type 1} → statement M
 plant-form-spec =
     tie.close
@@ -84,6 +90,6 @@ plant-form-spec =
     returns-3
     (λ c κs. rw (kind-is (c .before .before)) at (plant-long _ (row1 (c .before .before .before .before .before))))
     returns-4
-    (λ c κs. plant-laid _ _ (kind-is (c .before .before .before .before)) (row1 (c .before .before .before .before .before .before .before)) (row2 (c .before .before .before .before .before)) (row4 c))
+    is-in-range-requires
     returns-5
     returns-6)

@@ -10,7 +10,9 @@ slots-before-requires : tie.Need-slots-before-requires
 slots-before-requires c κs = (rw (c .as-usize .ensures .0) (counts-held (c .before .before .args .f) _ _ (c .before .before .pre)), search needs)
 
 in-range-requires : tie.Need-in-range-requires
-in-range-requires c κs = rw (zero-add, c .before .before .as-usize .ensures .0) (counts-held (c .before .before .before .before .args .f) _ _ (c .before .before .before .before .pre))
+in-range-requires c κs =
+    let s = c .before .before .before .before in
+    rw (zero-add, c .before .before .as-usize .ensures .0) (counts-held (s .args .f) _ _ (s .pre))
 
 has-products-requires : tie.Need-has-products-requires
 has-products-requires c κs =

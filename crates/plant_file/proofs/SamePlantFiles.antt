@@ -1,7 +1,8 @@
--- Two accepted plant files of kind 4 that agree in every byte but the last, section 12's second, have the same numbers. Assumes nothing.
-use Prim.Native.Nat.{ℕ, zero, suc, _+_, _*_, _≤_, _<_}
-use mathlib.Core.Path.{_≡_, refl, ap, _∙_}
-use mathlib.Core.Bool.{true, cond}
+-- When two plant files have the same numbers. Accepted files of kind 4 do that agree in every byte but the last, section 12's second. Assumes
+-- nothing.
+use Prim.Native.Nat.{ℕ, zero, suc, _+_, _*_, _-_, _≤_, _<_}
+use mathlib.Core.Path.{_≡_, refl, sym, ap, _∙_}
+use mathlib.Core.Bool.{cond}
 use mathlib.Core.List.{List}
 use native.Mathlib.Omega.{arith}
 use lib.ListN.{length, getD}
@@ -17,13 +18,33 @@ use Rattle.sections.specs.declared.Form.the-variants.{Good}
 use Rattle.sections.specs.Limits.{nothingMounted}
 use Rattle.sections.proofs.Rows.{laid-extent}
 use Rattle.sections.proofs.Tables.{cube-below}
 use Rattle.plant_file.specs.Plant.{rateIn, changeoverMinutesIn, changeoverCentsIn, demandIn, priceIn, backlogCostIn, inventoryCostIn}
-use Rattle.plant_file.specs.Plant.{leastStorageIn, greatestStorageIn, openingInventoryIn, openingBacklogIn, shortestRunIn, weekMinutesIn, mountedIn}
+use Rattle.plant_file.specs.Plant.{leastStorageIn, greatestStorageIn, openingInventoryIn, openingBacklogIn, shortestRunIn, weekMinutesIn}
+use Rattle.plant_file.specs.Plant.{plantOf, mountedIn, shutBeforeIn}
+use Rattle.plant_file.proofs.Cells.{byte-cell}
 use Rattle.plant_file.specs.Kinds.{plantKind, hasMounted}
 use Rattle.plant_file.specs.Form.{plantLengths, plantForm}
-use Rattle.plant_file.proofs.PlantKinds.{kind-lengths}
+use Rattle.plant_file.proofs.PlantKinds.{kind-lengths, has-section}
 use Rattle.plant_file.proofs.PlantReads.{good-laid}
-use Rattle.demands.proofs.SameNumbers.{SameNumbers}
+
+-- of one shape f, the same numbers within their ranges, but for whether the week before was shut
+pub record SameNumbers (f : Shape) (a b : List ℕ) : Type 0 where
+  pub rate : (i : ℕ) → i < f .products → plantOf f a .line .rate i ≡ plantOf f b .line .rate i
+  pub changeoverMinutes : (i j : ℕ) → i < f .products → j < f .products
+      → plantOf f a .line .changeoverMinutes i j ≡ plantOf f b .line .changeoverMinutes i j
+  pub changeoverCents : (i j : ℕ) → i < f .products → j < f .products
+      → plantOf f a .line .changeoverCents i j ≡ plantOf f b .line .changeoverCents i j
+  pub mounted : plantOf f a .line .mounted ≡ plantOf f b .line .mounted
+  pub demand : (c i w : ℕ) → c < f .customers → i < f .products → w < f .weeks → plantOf f a .demand c i w ≡ plantOf f b .demand c i w
+  pub price : (c i : ℕ) → c < f .customers → i < f .products → plantOf f a .price c i ≡ plantOf f b .price c i
+  pub backlogCost : (c i : ℕ) → c < f .customers → i < f .products → plantOf f a .backlogCost c i ≡ plantOf f b .backlogCost c i
+  pub inventoryCost : (i : ℕ) → i < f .products → plantOf f a .inventoryCost i ≡ plantOf f b .inventoryCost i
+  pub leastStorage : (i : ℕ) → i < f .products → plantOf f a .leastStorage i ≡ plantOf f b .leastStorage i
+  pub greatestStorage : (i : ℕ) → i < f .products → plantOf f a .greatestStorage i ≡ plantOf f b .greatestStorage i
+  pub openingInventory : (i : ℕ) → i < f .products → plantOf f a .openingInventory i ≡ plantOf f b .openingInventory i
+  pub openingBacklog : (c i : ℕ) → c < f .customers → i < f .products → plantOf f a .openingBacklog c i ≡ plantOf f b .openingBacklog c i
+  pub shortestRun : plantOf f a .shortestRun ≡ plantOf f b .shortestRun
+  pub weekMinutes : plantOf f a .weekMinutes ≡ plantOf f b .weekMinutes
 
 -- a number is the same where the bytes up to its end are
 number-same : (k : ℕ) (a b : List ℕ) (from : ℕ) → ((j : ℕ) → j < from + k → getD b j 0 ≡ getD a j 0) → numberAt k a from ≡ numberAt k b from
@@ -70,13 +91,21 @@ module _ {a lengths : List ℕ} (b : List ℕ) (n : ℕ) (laid : Laid a lengths)
   first-same more = cell-same 1 n 0 (omega arith) (omega (arith, last-ends))
 
 -- ---- plant files of kind 4: twelve lengths, the last of them 2
-pub has-section : (kind : ℕ) → kind ≡ 4 → hasMounted kind ≡ true
-unfolding hasMounted plantKind
-has-section kind e = rw e refl
-
 lengths-count : (f : Shape) → f .kind ≡ 4 → length (plantLengths f) ≡ 12
 unfolding plantKind
 lengths-count f e = kind-lengths f ∙ ap (λ (kind : ℕ). plantKind kind .sections) e
+
+-- section 12's two bytes are the file's last
+pub section-bytes : (f : Shape) (s : List ℕ) → plantForm s ≡ Good f → f .kind ≡ 4
+    → (plantOf f s .line .mounted ≡ getD s (length s - 2) 0) × (plantOf f s .line .shutBefore ≡ getD s (length s - 1) 0)
+unfolding mountedIn shutBeforeIn
+section-bytes f s good four =
+    let laid = good-laid s f good in
+    let count = lengths-count f four in
+    let two : getD (plantLengths f) 11 0 ≡ 2 = rw (has-section (f .kind) four) refl in
+    let ends = last-ends s 11 laid count (λ j l. refl) in
+    rw (has-section (f .kind) four)
+    (sym (byte-cell s 11 0 (length s - 2) (omega arith)), sym (byte-cell s 11 1 (length s - 1) (omega arith)))
 
 -- the first file's rows are enough: the other's contents are the same
 pub same-numbers : (f : Shape) (a b : List ℕ) → plantForm a ≡ Good f → f .kind ≡ 4 → ((j : ℕ) → j + 1 < length a → getD b j 0 ≡ getD a j 0)

@@ -1,4 +1,4 @@
-//! Times the three calls of the library beside those of the second implementation, and prints ratios as Markdown tables. Batches of
+//! Times the four calls of the library beside those of the second implementation, and prints ratios as Markdown tables. Batches of
 //! the two take turns, so that whatever else the machine does falls on both. No time is printed: a ratio can be compared with that
 //! of another machine.
 
@@ -6,6 +6,7 @@ use std::hint::black_box;
 use std::time::{Duration, Instant};
 
 use doxkarin_tests::model::{Plant, Sizes, Slot, Slots, Storage};
+use doxkarin_tests::rolls::rate_list;
 use doxkarin_tests::{library, machine, reference, samples, small};
 
 /// Pairs of batches for each ratio.
@@ -20,14 +21,23 @@ struct Case {
     plant: Vec<u8>,
     plan: Vec<u8>,
     slots: Vec<u8>,
+    /// Half of the weeks, after which the plant is rolled on with its own rates.
+    k: u64,
+    rates: Vec<u8>,
+    /// The length of the plant file of the weeks that remain.
+    rolled_length: usize,
     out: Vec<u8>,
 }
 
 impl Case {
     fn new(plant: &Plant, slots: &Slots) -> Case {
         let plan = machine::run(plant, slots).expect("the run never stops").encode();
-        let out = vec![0; plan.len()];
-        Case { plant: plant.encode(), plan, slots: slots.encode(), out }
+        let (k, rates) = (plant.sizes.weeks as u64 / 2, rate_list(&plant.rates));
+        let plant = plant.encode();
+        let rolled = reference::rolled_plant_file(&plant, &plan, k, &rates);
+        let rolled_length = rolled.expect("weeks remain").len();
+        let out = vec![0; plan.len().max(rolled_length)];
+        Case { plant, plan, slots: slots.encode(), k, rates, rolled_length, out }
     }
 
     fn small() -> Case {
@@ -64,7 +74,7 @@ impl Case {
     }
 }
 
-/// One of the three calls, of either implementation.
+/// One of the four calls, of either implementation.
 struct Call {
     name: &'static str,
     library: fn(&mut Case) -> i64,
@@ -73,7 +83,7 @@ struct Call {
     bytes: fn(&Case) -> usize,
 }
 
-const CALLS: [Call; 3] = [
+const CALLS: [Call; 4] = [
     Call {
         name: "check",
         library: |case| library::check(&case.plant, &case.plan).expect("the plan passes"),
@@ -83,26 +93,40 @@ const CALLS: [Call; 3] = [
     Call {
         name: "slots",
         library: |case| {
-            let length = library::slots(&case.plant, &case.plan, &mut case.out);
-            length.expect("the output has room") as i64
+            let out = &mut case.out[..case.slots.len()];
+            library::slots(&case.plant, &case.plan, out).expect("the output has room") as i64
         },
         reference: |case| {
-            let length = reference::slots(&case.plant, &case.plan, &mut case.out);
-            length.expect("the output has room") as i64
+            let out = &mut case.out[..case.slots.len()];
+            reference::slots(&case.plant, &case.plan, out).expect("the output has room") as i64
         },
         bytes: |case| case.plant.len() + case.plan.len() + case.slots.len(),
     },
     Call {
         name: "plan",
         library: |case| {
-            let length = library::plan(&case.plant, &case.slots, &mut case.out);
+            let out = &mut case.out[..case.plan.len()];
+            library::plan(&case.plant, &case.slots, out).expect("the output has room") as i64
+        },
+        reference: |case| {
+            let out = &mut case.out[..case.plan.len()];
+            reference::plan(&case.plant, &case.slots, out).expect("the output has room") as i64
+        },
+        bytes: |case| case.plant.len() + case.slots.len() + case.plan.len(),
+    },
+    Call {
+        name: "roll",
+        library: |case| {
+            let Case { plant, plan, k, rates, rolled_length, out, .. } = case;
+            let length = library::roll(plant, plan, *k, rates, &mut out[..*rolled_length]);
             length.expect("the output has room") as i64
         },
         reference: |case| {
-            let length = reference::plan(&case.plant, &case.slots, &mut case.out);
+            let Case { plant, plan, k, rates, rolled_length, out, .. } = case;
+            let length = reference::roll(plant, plan, *k, rates, &mut out[..*rolled_length]);
             length.expect("the output has room") as i64
         },
-        bytes: |case| case.plant.len() + case.slots.len() + case.plan.len(),
+        bytes: |case| case.plant.len() + case.plan.len() + case.rates.len() + case.rolled_length,
     },
 ];
 
@@ -184,10 +208,11 @@ fn growth(call: fn(&mut Case) -> i64, cases: &mut [Case]) -> Vec<Spread> {
 
 fn print_ratios() {
     println!("Time of the library / time of the second implementation: median (quartiles) of {PAIRS} pairs of");
-    println!("batches that take turns. Outputs are exactly as long as the result and not cleared between calls.");
+    println!("batches that take turns. Outputs are exactly as long as the result and not cleared between calls. A plant is");
+    println!("rolled on after half of its weeks, with its own rates.");
     println!();
     println!("| Plant | Files, bytes | {} |", CALLS.map(|call| call.name).join(" | "));
-    println!("|---|---|---|---|---|");
+    println!("|---|---|---|---|---|---|");
     let cases = [
         ("small: 2 products, 1 customer, 2 weeks", Case::small()),
         ("10 products, 8 customers, 8 weeks", Case::of_sizes(10, 8, 8)),

@@ -1,5 +1,5 @@
 //! Plant and slot files: one kind byte, the count of sections, the contents,
-//! then the bodies end to end.
+//! then the bodies end to end; and lists of rates, which have no header.
 
 use std::fmt;
 use std::ops::RangeInclusive;
@@ -57,10 +57,31 @@ impl fmt::Display for Refusal {
     }
 }
 
+/// Why a list of rates is refused. Its numbers are plant files' too, for other reasons.
+#[derive(Clone, Copy, Debug, PartialEq, Eq)]
+pub enum RatesRefusal {
+    Length,
+    Range,
+}
+
+impl fmt::Display for RatesRefusal {
+    fn fmt(&self, formatter: &mut fmt::Formatter<'_>) -> fmt::Result {
+        formatter.write_str(match self {
+            RatesRefusal::Length => "refused 4: it is not 4 bytes for each of the plant's products",
+            RatesRefusal::Range => "refused 5: a rate is out of its range",
+        })
+    }
+}
+
 /// Whether these are a file's bytes and not a text. A file begins with its kind
 /// and has bytes of 0 in its contents; a text has no control characters.
 pub fn is_binary(bytes: &[u8]) -> bool {
     bytes.first().is_none_or(|&kind| kind < b'\t') || bytes.contains(&0)
+}
+
+/// Whether the kind is that of a plant file.
+pub fn is_plant(file: &[u8]) -> bool {
+    matches!(file.first(), Some(&PLANT_KIND | &WEEK_BEFORE_KIND))
 }
 
 pub fn encode_plant(plant: &Plant) -> Vec<u8> {
@@ -104,6 +125,10 @@ pub fn encode_slots(slots: &Slots) -> Vec<u8> {
     });
     let bodies = [counts.collect(), runs.collect(), by_four(slots.sales.iter().copied())];
     encode(SLOTS_KIND, SLOTS_SECTIONS, &bodies)
+}
+
+pub fn encode_rates(rates: &[u32]) -> Vec<u8> {
+    by_four(rates.iter().copied())
 }
 
 /// Lays the bodies end to end after their contents.
@@ -212,6 +237,19 @@ pub fn decode_slots(sizes: Sizes, file: &[u8]) -> Result<Slots, Refusal> {
     Ok(Slots { weeks, sales: fours(bodies[2]) })
 }
 
+/// Reads the list of rates of a plant of these sizes, or refuses it with 4 or 5.
+pub fn decode_rates(sizes: Sizes, file: &[u8]) -> Result<Vec<u32>, RatesRefusal> {
+    if file.len() != 4 * sizes.products {
+        return Err(RatesRefusal::Length);
+    }
+    let rates = fours(file);
+    if all_within(&rates, limits::RATE) {
+        Ok(rates)
+    } else {
+        Err(RatesRefusal::Range)
+    }
+}
+
 /// The bodies of a file, or `wrong_contents` or `misplaced`.
 fn decode(
     file: &[u8],
@@ -246,6 +284,7 @@ fn decode(
 /// Whether every number of the plant is in its range.
 fn in_range(plant: &Plant) -> bool {
     let products = plant.sizes.products;
+    let opening_backlog = limits::opening_backlog(plant.week_before.is_some());
     let mut on_diagonal = (0..products).map(|product| plant.sizes.from_to(product, product));
     all_within(&plant.rates, limits::RATE)
         && all_within(&plant.changeover_minutes, limits::CHANGEOVER_MINUTES)
@@ -260,7 +299,7 @@ fn in_range(plant: &Plant) -> bool {
             storage.least <= storage.greatest && limits::STORAGE.contains(&storage.greatest.into())
         })
         && all_within(&plant.opening_inventory, limits::OPENING_INVENTORY)
-        && all_within(&plant.opening_backlog, limits::OPENING_BACKLOG)
+        && all_within(&plant.opening_backlog, opening_backlog)
         && all_within(&[plant.shortest_run, plant.week_minutes], limits::WEEK_MINUTES)
         && plant.shortest_run <= plant.week_minutes
         && plant

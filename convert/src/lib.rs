@@ -1,4 +1,4 @@
-//! Plant and slot files as text that a planner reads and writes.
+//! Plant files, slot files and lists of rates as text that a planner reads and writes.
 //!
 //! - [`model`]: the numbers of a plant and its slots, and the planner's names.
 //! - [`limits`]: the ranges of the plant's numbers.
@@ -7,6 +7,7 @@
 //! - [`quantities`]: numbers with their units.
 //! - [`plant_text`]: the text of a plant.
 //! - [`slots_text`]: the text of a plant's slots and sales.
+//! - [`rates_text`]: the text of a plant's rates alone.
 
 #![forbid(unsafe_code)]
 
@@ -16,4 +17,5 @@ pub mod lines;
 pub mod model;
 pub mod plant_text;
 pub mod quantities;
+pub mod rates_text;
 pub mod slots_text;

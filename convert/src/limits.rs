@@ -1,5 +1,5 @@
 //! The ranges of a plant's numbers: a plant file outside them is refused with
-//! 3 or 5.
+//! 3 or 5, a list of rates with 5.
 
 use std::ops::RangeInclusive;
 
@@ -21,8 +21,6 @@ pub const UNIT_COST: RangeInclusive<u64> = 0..=100_000;
 pub const STORAGE: RangeInclusive<u64> = 0..=4_000_000_000;
 /// Grams.
 pub const OPENING_INVENTORY: RangeInclusive<u64> = 0..=4_000_000_000;
-/// Grams.
-pub const OPENING_BACKLOG: RangeInclusive<u64> = 0..=100_000_000;
 /// Minutes: the shortest run and the week, the shortest run at most the week.
 pub const WEEK_MINUTES: RangeInclusive<u64> = 1..=10_080;
 
@@ -30,3 +28,13 @@ pub const WEEK_MINUTES: RangeInclusive<u64> = 1..=10_080;
 pub const RUN: RangeInclusive<u64> = 0..=65_535;
 /// Grams of a sale: what its four bytes hold.
 pub const SALE: RangeInclusive<u64> = 0..=4_294_967_295;
+
+/// Grams of an opening backlog. A plant with its week before, kind 4, may be one
+/// that was rolled on, and owe more (request 2026-03).
+pub fn opening_backlog(with_week_before: bool) -> RangeInclusive<u64> {
+    if with_week_before {
+        0..=1_600_000_000
+    } else {
+        0..=100_000_000
+    }
+}

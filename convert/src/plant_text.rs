@@ -17,7 +17,7 @@ const FORMS: [&str; 16] = [
     "customer NAME",
     "mounted PRODUCT",
     "week-before shut or producing",
-    "rate PRODUCT NUMBER grams per minute",
+    RATE_FORM,
     "changeover PRODUCT PRODUCT NUMBER minutes NUMBER cents",
     "inventory-cost PRODUCT NUMBER cents per kilogram",
     "storage PRODUCT LEAST GREATEST grams",
@@ -28,6 +28,9 @@ const FORMS: [&str; 16] = [
     "demand CUSTOMER PRODUCT week NUMBER NUMBER grams",
 ];
 
+/// A rate's line, which a text of rates has too.
+pub(crate) const RATE_FORM: &str = "rate PRODUCT NUMBER grams per minute";
+
 /// The words of `week-before`, by its byte in the file.
 const WEEK_BEFORE: [&str; 2] = ["producing", "shut"];
 
@@ -35,7 +38,7 @@ const WEEK_MINUTES: Quantity =
     Quantity { name: "a week", unit: Unit::Minutes, limits: limits::WEEK_MINUTES };
 const SHORTEST_RUN: Quantity =
     Quantity { name: "a shortest run", unit: Unit::Minutes, limits: limits::WEEK_MINUTES };
-const RATE: Quantity =
+pub(crate) const RATE: Quantity =
     Quantity { name: "a rate", unit: Unit::GramsPerMinute, limits: limits::RATE };
 const CHANGEOVER_MINUTES: Quantity =
     Quantity { name: "a changeover", unit: Unit::Minutes, limits: limits::CHANGEOVER_MINUTES };
@@ -51,9 +54,13 @@ const PRICE: Quantity =
     Quantity { name: "a price", unit: Unit::CentsPerKilogram, limits: limits::UNIT_COST };
 const BACKLOG_COST: Quantity =
     Quantity { name: "a backlog cost", unit: Unit::CentsPerKilogram, limits: limits::UNIT_COST };
-const OPENING_BACKLOG: Quantity =
-    Quantity { name: "an opening backlog", unit: Unit::Grams, limits: limits::OPENING_BACKLOG };
 const DEMAND: Quantity = Quantity { name: "a demand", unit: Unit::Grams, limits: limits::DEMAND };
+
+/// Its limits go by the plant's kind.
+fn opening_backlog(with_week_before: bool) -> Quantity {
+    let limits = limits::opening_backlog(with_week_before);
+    Quantity { name: "an opening backlog", unit: Unit::Grams, limits }
+}
 
 /// Reads the text of a plant, or tells its faults, lines rising.
 pub fn read(text: &[u8]) -> Result<(Plant, Names), Vec<Fault>> {
@@ -79,12 +86,14 @@ pub fn read(text: &[u8]) -> Result<(Plant, Names), Vec<Fault>> {
     }
 }
 
-/// The names, with their lines, and the count of weeks.
+/// The names, with their lines, the count of weeks, and the kind.
 struct Declarations {
     names: Names,
     product_lines: Vec<usize>,
     customer_lines: Vec<usize>,
     weeks: Facts<usize>,
+    /// Whether a line, even a faulty one, is about the week before: it makes kind 4.
+    with_week_before: bool,
 }
 
 impl Declarations {
@@ -94,6 +103,7 @@ impl Declarations {
             product_lines: Vec::new(),
             customer_lines: Vec::new(),
             weeks: Facts::default(),
+            with_week_before: false,
         };
         for line in lines {
             if let Err(message) = declarations.read_line(line) {
@@ -136,6 +146,10 @@ impl Declarations {
                 let weeks = read_count(&mut words, "a count of weeks", limits::WEEKS);
                 let weeks = weeks.and_then(|weeks| words.end().map(|()| weeks));
                 self.weeks.give(0, line.number, weeks, || "the count of weeks".to_string())
+            }
+            "mounted" | "week-before" => {
+                self.with_week_before = true;
+                Ok(())
             }
             _ => Ok(()),
         }
@@ -252,9 +266,10 @@ impl<'names> Reader<'names> {
             "backlog-cost" => {
                 self.read_pair_fact(line, words, &BACKLOG_COST, |reader| &mut reader.backlog_costs)
             }
-            "opening-backlog" => self.read_pair_fact(line, words, &OPENING_BACKLOG, |reader| {
-                &mut reader.opening_backlog
-            }),
+            "opening-backlog" => {
+                let quantity = opening_backlog(self.declarations.with_week_before);
+                self.read_pair_fact(line, words, &quantity, |reader| &mut reader.opening_backlog)
+            }
             "changeover" => self.read_changeover(number, words),
             "storage" => self.read_storage(number, words),
             "demand" => self.read_demand(number, words),
@@ -422,10 +437,7 @@ impl<'names> Reader<'names> {
             let line = self.declarations.product_lines[product];
             let mut tell = |message| faults.push(Fault { line, message });
             if self.rates.get(product).is_none() {
-                tell(format!(
-                    "product {name} has no rate; expected a line: rate {name} NUMBER grams per \
-                     minute"
-                ));
+                tell(no_rate(name));
             }
             if self.inventory_costs.get(product).is_none() {
                 tell(format!(
@@ -491,8 +503,13 @@ impl<'names> Reader<'names> {
     }
 }
 
+/// What is told of a product without a rate.
+pub(crate) fn no_rate(name: &str) -> String {
+    format!("product {name} has no rate; expected a line: rate {name} NUMBER grams per minute")
+}
+
 /// The values at the places below `count`, 0 where none is given.
-fn values(facts: &Facts<u64>, count: usize) -> Vec<u32> {
+pub(crate) fn values(facts: &Facts<u64>, count: usize) -> Vec<u32> {
     (0..count).map(|place| four_bytes(facts.value(place).unwrap_or_default())).collect()
 }
 
@@ -552,7 +569,7 @@ fn write_product(
     let (rate, cost) = (plant.rates[product], plant.inventory_costs[product]);
     let opening = plant.opening_inventory[product];
     writeln!(text)?;
-    writeln!(text, "rate {name} {}", RATE.unit.amount(rate))?;
+    writeln!(text, "{}", rate_line(name, rate))?;
     writeln!(text, "inventory-cost {name} {}", INVENTORY_COST.unit.amount(cost))?;
     writeln!(text, "storage {name} {least} {}", STORAGE.unit.amount(greatest))?;
     if opening > 0 {
@@ -565,6 +582,10 @@ fn write_product(
         writeln!(text, "changeover {name} {to_name} {minutes} {cents}")?;
     }
     Ok(())
+}
+
+pub(crate) fn rate_line(name: &str, rate: u32) -> String {
+    format!("rate {name} {}", RATE.unit.amount(rate))
 }
 
 fn write_pair(
@@ -584,7 +605,8 @@ fn write_pair(
         writeln!(text, "backlog-cost {name} {}", BACKLOG_COST.unit.amount(cost))?;
     }
     if opening > 0 {
-        writeln!(text, "opening-backlog {name} {}", OPENING_BACKLOG.unit.amount(opening))?;
+        let unit = opening_backlog(plant.week_before.is_some()).unit;
+        writeln!(text, "opening-backlog {name} {}", unit.amount(opening))?;
     }
     for week in 0..plant.sizes.weeks {
         let grams = plant.demand[plant.sizes.customer_product_week(customer, product, week)];

@@ -1,5 +1,5 @@
-/* The three calls from C, on the files that the arguments name: PLANT PLAN SLOTS. Prints the profit, and whether slots and plan are
- * each other's. */
+/* The four calls from C, on the files that the arguments name: PLANT PLAN SLOTS. Prints the profit, whether slots and plan are each
+ * other's, and the length and the mounted product of the plant that is rolled on after the first week with the small plant's rates. */
 #include <inttypes.h>
 #include <stdio.h>
 #include <string.h>
@@ -40,5 +40,14 @@ int main(int count, char **arguments) {
     refusal = doxkarin_plan(plant, plant_length, slots, slots_length, out, ROOM, &length);
     same = length == plan_length && memcmp(out, plan, plan_length) == 0;
     printf("plan %" PRIu32 " %s\n", refusal, same ? "same" : "different");
+
+    static const uint8_t rates[] = {100, 0, 0, 0, 50, 0, 0, 0};
+    length = 0;
+    refusal = doxkarin_roll(plant, plant_length, plan, plan_length, 1, rates, sizeof rates, out, ROOM, &length);
+    printf("roll %" PRIu32, refusal);
+    if (refusal == 0) {
+        printf(" %" PRIu64 " bytes, %u mounted", length, (unsigned)out[length - 2]);
+    }
+    printf("\n");
     return 0;
 }

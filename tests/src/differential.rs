@@ -9,18 +9,20 @@ use crate::layout::Parts;
 use crate::model::{Kind, Plan, Plant, Refusal, Sizes, Slots};
 use crate::mutants;
 use crate::random::Random;
+use crate::rolls::{any_k, any_rates, rate_list, Roll, ROLL_SORTS};
 use crate::scenario::{self, Scenario, SORTS};
 use crate::{following, library, machine, reference};
 
-/// The three calls.
+/// The four calls.
 #[derive(Clone, Copy, Debug, PartialEq, Eq, PartialOrd, Ord)]
 pub enum Call {
     Check,
     Slots,
     Plan,
+    Roll,
 }
 
-pub const CALLS: [Call; 3] = [Call::Check, Call::Slots, Call::Plan];
+pub const CALLS: [Call; 4] = [Call::Check, Call::Slots, Call::Plan, Call::Roll];
 
 impl Call {
     /// The numbers that this call can return, 0 for no refusal.
@@ -30,6 +32,7 @@ impl Call {
             Call::Check => plant.chain(11..=14).chain(31..=41).collect(),
             Call::Slots => plant.chain(11..=14).chain(31..=41).chain([51]).collect(),
             Call::Plan => plant.chain(21..=25).chain([35, 36, 38, 39, 40, 51]).collect(),
+            Call::Roll => plant.chain(11..=14).chain(31..=41).chain([51, 61, 62]).collect(),
         }
     }
 }
@@ -43,6 +46,8 @@ pub struct Counts {
     passed: Vec<Sizes>,
     /// How often a plan of each sort passed.
     passed_sorts: [u64; SORTS.len()],
+    /// How many rolls there were of each sort.
+    roll_sorts: [u64; ROLL_SORTS.len()],
 }
 
 impl Counts {
@@ -65,6 +70,11 @@ impl Counts {
         SORTS.iter().zip(self.passed_sorts).map(|(&(name, _), count)| (name, count))
     }
 
+    /// How many rolls there were of each sort, each with outputs of several lengths.
+    pub fn roll_sorts(&self) -> impl Iterator<Item = (&'static str, u64)> + '_ {
+        ROLL_SORTS.iter().zip(self.roll_sorts).map(|(&(name, _), count)| (name, count))
+    }
+
     fn add(&mut self, call: Call, number: Refusal) {
         self.cases += 1;
         *self.by_number.entry((number, call)).or_default() += 1;
@@ -78,11 +88,17 @@ impl Counts {
             *count += u64::from(is_sort(plant, slots));
         }
     }
+
+    fn add_roll(&mut self, roll: &Roll) {
+        for ((_, is_sort), count) in ROLL_SORTS.iter().zip(&mut self.roll_sorts) {
+            *count += u64::from(is_sort(roll));
+        }
+    }
 }
 
 impl fmt::Display for Counts {
     fn fmt(&self, formatter: &mut fmt::Formatter<'_>) -> fmt::Result {
-        writeln!(formatter, "number   check   slots    plan")?;
+        writeln!(formatter, "number   check   slots    plan    roll")?;
         let mut numbers: Vec<Refusal> = self.by_number.keys().map(|key| key.0).collect();
         numbers.dedup();
         for number in numbers {
@@ -96,30 +112,59 @@ impl fmt::Display for Counts {
     }
 }
 
+/// What a call reads. Each allocation is as long as its bytes.
+#[derive(Clone, Debug)]
+pub struct Input {
+    pub plant: Box<[u8]>,
+    /// The plan or slot file.
+    pub file: Box<[u8]>,
+    /// What a roll reads beside them.
+    pub rolling: Option<Rolling>,
+}
+
+/// How many weeks have run, and a list of rates.
+#[derive(Clone, Debug)]
+pub struct Rolling {
+    pub k: u64,
+    pub rates: Box<[u8]>,
+}
+
+impl Input {
+    fn new(plant: &[u8], file: &[u8]) -> Input {
+        Input { plant: plant.into(), file: file.into(), rolling: None }
+    }
+}
+
+impl fmt::Display for Input {
+    fn fmt(&self, formatter: &mut fmt::Formatter<'_>) -> fmt::Result {
+        let (plant, file) = (self.plant.len(), self.file.len());
+        write!(formatter, "a plant of {plant} bytes and a file of {file} bytes")?;
+        match &self.rolling {
+            None => Ok(()),
+            Some(Rolling { k, rates }) => {
+                write!(formatter, ", after {k} weeks with rates of {} bytes", rates.len())
+            }
+        }
+    }
+}
+
 /// A call that the two implementations answer differently.
 #[derive(Clone, Debug)]
 pub struct Difference {
     pub seed: u64,
     pub call: Call,
-    pub plant: Vec<u8>,
-    /// The plan or slot file.
-    pub input: Vec<u8>,
+    pub input: Input,
     pub library: Answer,
     pub reference: Answer,
 }
 
 impl fmt::Display for Difference {
     fn fmt(&self, formatter: &mut fmt::Formatter<'_>) -> fmt::Result {
+        let Difference { seed, call, input, library, reference } = self;
         write!(
             formatter,
-            "{:?} of a plant of {} bytes and a file of {} bytes, in the scenario of seed {}: \
-             library {}, second implementation {}",
-            self.call,
-            self.plant.len(),
-            self.input.len(),
-            self.seed,
-            self.library,
-            self.reference,
+            "{call:?} of {input}, in the scenario of seed {seed}: \
+             library {library}, second implementation {reference}",
         )
     }
 }
@@ -165,13 +210,17 @@ pub fn run_scenario(seed: u64, counts: &mut Counts) -> Result<(), Box<Difference
         counts.add_passed(&plant, &slots);
     }
     let mut comparison = Comparison { seed, random, counts };
-    comparison.compare_plan(&plant.encode(), &plan.encode())?;
+    comparison.compare_plan(&plant, &plant.encode(), &plan.encode())?;
     comparison.compare_slots(&plant.encode(), &slots.encode())?;
     for _ in 0..8 {
         comparison.compare_changed_plan(&plant, &slots, &plan)?;
     }
     for _ in 0..6 {
         comparison.compare_changed_slots(&plant, &slots)?;
+    }
+    let rolls = if sizes.weeks > 1 { 4 } else { 0 };
+    for _ in 0..rolls {
+        comparison.compare_changed_roll(&plant, &slots)?;
     }
     Ok(())
 }
@@ -211,8 +260,8 @@ impl Comparison<'_> {
                 plan.encode()
             }
         };
-        let plant = self.changed_plant(&plant);
-        self.compare_plan(&plant, &file)
+        let plant_file = self.changed_plant(&plant);
+        self.compare_plan(&plant, &plant_file, &file)
     }
 
     fn compare_changed_slots(
@@ -247,6 +296,23 @@ impl Comparison<'_> {
         self.compare_slots(&plant, &file)
     }
 
+    fn compare_changed_roll(
+        &mut self,
+        plant: &Plant,
+        slots: &Slots,
+    ) -> Result<(), Box<Difference>> {
+        let (mut plant, mut slots) = (plant.clone(), slots.clone());
+        let random = &mut self.random;
+        let mut k = random.pick(&mutants::ROLL_CHANGES)(random, &mut plant, &mut slots);
+        if random.one_in(8) {
+            k = random.pick(&[k.saturating_sub(1), k + 1]);
+        }
+        let rates =
+            if random.one_in(3) { any_rates(random, &plant) } else { rate_list(&plant.rates) };
+        let plan = following::plan(&plant, &slots);
+        self.compare_roll(&plant.encode(), &plan.encode(), k, &rates)
+    }
+
     /// The plant's file, damaged once in a while.
     fn changed_plant(&mut self, plant: &Plant) -> Vec<u8> {
         match self.random.below(32) {
@@ -277,38 +343,63 @@ impl Comparison<'_> {
         file
     }
 
-    /// Checks a plan and writes its slots.
-    fn compare_plan(&mut self, plant: &[u8], plan: &[u8]) -> Result<(), Box<Difference>> {
-        let (plant, plan) = (exact(plant), exact(plan));
-
+    /// Checks a plan, writes its slots, and rolls it on. The plant is that of the
+    /// file, but for damage.
+    fn compare_plan(
+        &mut self,
+        plant: &Plant,
+        plant_file: &[u8],
+        plan: &[u8],
+    ) -> Result<(), Box<Difference>> {
+        let input = Input::new(plant_file, plan);
         let kept = self.random.number() as i64;
         let mut profit = kept;
-        let number = library::check_into(&plant, &plan, &mut profit);
+        let number = library::check_into(&input.plant, &input.file, &mut profit);
         let library = Answer { number, value: profit.into(), output: Vec::new() };
-        let (number, value) = match reference::check(&plant, &plan) {
+        let (number, value) = match reference::check(plant_file, plan) {
             Ok(profit) => (0, profit),
             Err(refusal) => (refusal, kept),
         };
         let reference = Answer { number, value: value.into(), output: Vec::new() };
-        self.settle(Call::Check, &plant, &plan, library, reference)?;
+        self.settle(Call::Check, &input, library, reference)?;
 
-        let file = reference::slot_file(&plant, &plan);
-        self.compare_output(Call::Slots, &plant, &plan, file)
+        let file = reference::slot_file(plant_file, plan);
+        self.compare_output(Call::Slots, &input, file)?;
+
+        let k = any_k(&mut self.random, plant.sizes.weeks);
+        let rates = any_rates(&mut self.random, plant);
+        self.compare_roll(plant_file, plan, k, &rates)
     }
 
     /// Writes the plan of a slot file.
     fn compare_slots(&mut self, plant: &[u8], slots: &[u8]) -> Result<(), Box<Difference>> {
-        let (plant, slots) = (exact(plant), exact(slots));
-        let file = reference::plan_file(&plant, &slots);
-        self.compare_output(Call::Plan, &plant, &slots, file)
+        let file = reference::plan_file(plant, slots);
+        self.compare_output(Call::Plan, &Input::new(plant, slots), file)
+    }
+
+    /// Rolls a plant on.
+    fn compare_roll(
+        &mut self,
+        plant: &[u8],
+        plan: &[u8],
+        k: u64,
+        rates: &[u8],
+    ) -> Result<(), Box<Difference>> {
+        let file = reference::rolled_plant_file(plant, plan, k, rates);
+        let number = file.as_ref().err().copied().unwrap_or(0);
+        if let Ok((plant, plan)) = reference::passed(plant, plan) {
+            self.counts.add_roll(&Roll { plant: &plant, plan: &plan, k, rates, number });
+        }
+        let rolling = Some(Rolling { k, rates: rates.into() });
+        let input = Input { rolling, ..Input::new(plant, plan) };
+        self.compare_output(Call::Roll, &input, file)
     }
 
     /// Compares a call that writes, with outputs of several lengths.
     fn compare_output(
         &mut self,
         call: Call,
-        plant: &[u8],
-        input: &[u8],
+        input: &Input,
         file: Result<Vec<u8>, Refusal>,
     ) -> Result<(), Box<Difference>> {
         let lengths = match &file {
@@ -326,10 +417,7 @@ impl Comparison<'_> {
             let mut output = filled.clone();
             let mut written = kept;
             let out = &mut output[MARGIN..MARGIN + length];
-            let number = match call {
-                Call::Plan => library::plan_into(plant, input, out, &mut written),
-                _ => library::slots_into(plant, input, out, &mut written),
-            };
+            let number = write_into(call, input, out, &mut written);
             let library = Answer { number, value: written.into(), output };
 
             let mut output = filled;
@@ -339,7 +427,7 @@ impl Comparison<'_> {
                 Err(refusal) => (refusal, kept),
             };
             let reference = Answer { number, value: value.into(), output };
-            self.settle(call, plant, input, library, reference)?;
+            self.settle(call, input, library, reference)?;
         }
         Ok(())
     }
@@ -347,27 +435,25 @@ impl Comparison<'_> {
     fn settle(
         &mut self,
         call: Call,
-        plant: &[u8],
-        input: &[u8],
+        input: &Input,
         library: Answer,
         reference: Answer,
     ) -> Result<(), Box<Difference>> {
         if library != reference {
-            return Err(Box::new(Difference {
-                seed: self.seed,
-                call,
-                plant: plant.to_vec(),
-                input: input.to_vec(),
-                library,
-                reference,
-            }));
+            let (seed, input) = (self.seed, input.clone());
+            return Err(Box::new(Difference { seed, call, input, library, reference }));
         }
         self.counts.add(call, reference.number);
         Ok(())
     }
 }
 
-/// A copy whose allocation is as long as the file.
-fn exact(file: &[u8]) -> Box<[u8]> {
-    file.into()
+/// Makes a call of the library that writes.
+fn write_into(call: Call, input: &Input, out: &mut [u8], length: &mut u64) -> Refusal {
+    let Input { plant, file, rolling } = input;
+    match (call, rolling) {
+        (_, Some(Rolling { k, rates })) => library::roll_into(plant, file, *k, rates, out, length),
+        (Call::Plan, _) => library::plan_into(plant, file, out, length),
+        _ => library::slots_into(plant, file, out, length),
+    }
 }

@@ -1,5 +1,6 @@
 //! From bytes to numbers, or the first row of the refusal table that turns the
-//! file down: 1 to 5 for plants, 11 to 14 for plans, 21 to 24 for slots.
+//! file down: 1 to 5 for plants, 11 to 14 for plans, 21 to 24 for slots, 4 and 5
+//! for lists of rates.
 
 use std::ops::RangeInclusive;
 
@@ -126,6 +127,22 @@ pub fn read_slots(plant: &Plant, file: &[u8]) -> Result<Slots, Refusal> {
     Ok(slots)
 }
 
+/// Reads a list of rates, one of four bytes for each product: rows 4 and 5.
+pub fn read_rates(sizes: Sizes, list: &[u8]) -> Result<Vec<u32>, Refusal> {
+    refuse_unless(list.len() == 4 * sizes.products, 4)?;
+    let rates = fours(list);
+    refuse_unless(are_rates(&rates), 5)?;
+    Ok(rates)
+}
+
+/// The greatest backlog before week 0, in grams, of a plant of this kind.
+pub const fn most_opening_backlog(kind: Kind) -> u32 {
+    match kind {
+        Kind::MountedPlant => 1_600_000_000,
+        _ => 100_000_000,
+    }
+}
+
 /// The bodies of a file, or `wrong_contents` or `misplaced`.
 fn read_bodies(
     file: &[u8],
@@ -159,7 +176,7 @@ fn read_bodies(
 fn in_range(plant: &Plant) -> bool {
     let products = plant.sizes.products;
     let on_diagonal = (0..products).map(|product| plant.sizes.from_to(product, product));
-    plant.rates.iter().all(|rate| (1..=100_000).contains(rate))
+    are_rates(&plant.rates)
         && plant.changeover_minutes.iter().all(|&minutes| minutes <= 10_080)
         && on_diagonal.clone().all(|place| plant.changeover_minutes[place] == 0)
         && at_most(&plant.changeover_cents, 1_000_000)
@@ -173,7 +190,7 @@ fn in_range(plant: &Plant) -> bool {
             .iter()
             .all(|limits| limits.least <= limits.greatest && limits.greatest <= 4_000_000_000)
         && at_most(&plant.opening_inventory, 4_000_000_000)
-        && at_most(&plant.opening_backlog, 100_000_000)
+        && at_most(&plant.opening_backlog, most_opening_backlog(plant.kind()))
         && 1 <= plant.shortest_run
         && plant.shortest_run <= plant.week_minutes
         && plant.week_minutes <= 10_080
@@ -181,7 +198,12 @@ fn in_range(plant: &Plant) -> bool {
         && plant.opening_line.is_none_or(|line| line.was_shut <= 1)
 }
 
-fn at_most(numbers: &[u32], greatest: u32) -> bool {
+fn are_rates(numbers: &[u32]) -> bool {
+    numbers.iter().all(|rate| (1..=100_000).contains(rate))
+}
+
+/// Whether no number is greater.
+pub fn at_most(numbers: &[u32], greatest: u32) -> bool {
     numbers.iter().all(|&number| number <= greatest)
 }
 
@@ -189,7 +211,8 @@ fn have_lengths(bodies: &[&[u8]], lengths: &[usize]) -> bool {
     bodies.iter().map(|body| body.len()).eq(lengths.iter().copied())
 }
 
-fn refuse_unless(condition: bool, refusal: Refusal) -> Result<(), Refusal> {
+/// This refusal, or nothing where the condition holds.
+pub fn refuse_unless(condition: bool, refusal: Refusal) -> Result<(), Refusal> {
     if condition {
         Ok(())
     } else {

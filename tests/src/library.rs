@@ -1,9 +1,9 @@
-//! Safe wrappers of the compiled library's three calls, as `include/doxkarin.h`
+//! Safe wrappers of the compiled library's four calls, as `include/doxkarin.h`
 //! declares them. The calls take any bytes, so the wrappers test nothing.
 //!
-//! [`check`], [`slots`] and [`plan`] give an answer or the refusal. The variants
-//! that end in `_into` are the calls as C has them: they return the number, 0
-//! for no refusal, and show what became of the caller's variable.
+//! [`check`], [`slots`], [`plan`] and [`roll`] give an answer or the refusal. The
+//! variants that end in `_into` are the calls as C has them: they return the
+//! number, 0 for no refusal, and show what became of the caller's variable.
 
 use crate::model::Refusal;
 
@@ -35,6 +35,19 @@ extern "C" {
         out_length: usize,
         length: *mut u64,
     ) -> u32;
+
+    fn doxkarin_roll(
+        plant: *const u8,
+        plant_length: usize,
+        plan: *const u8,
+        plan_length: usize,
+        k: u64,
+        rates: *const u8,
+        rates_length: usize,
+        out: *mut u8,
+        out_length: usize,
+        length: *mut u64,
+    ) -> u32;
 }
 
 /// Checks a plan: its profit in thousandths of a cent.
@@ -59,6 +72,22 @@ pub fn slots(plant: &[u8], plan: &[u8], out: &mut [u8]) -> Result<usize, Refusal
 pub fn plan(plant: &[u8], slots: &[u8], out: &mut [u8]) -> Result<usize, Refusal> {
     let mut length = 0;
     match plan_into(plant, slots, out, &mut length) {
+        0 => Ok(as_length(length)),
+        refusal => Err(refusal),
+    }
+}
+
+/// Writes the plant file of the weeks after the first `k` of a plan that passes,
+/// with these rates, to the start of `out`: its length.
+pub fn roll(
+    plant: &[u8],
+    plan: &[u8],
+    k: u64,
+    rates: &[u8],
+    out: &mut [u8],
+) -> Result<usize, Refusal> {
+    let mut length = 0;
+    match roll_into(plant, plan, k, rates, out, &mut length) {
         0 => Ok(as_length(length)),
         refusal => Err(refusal),
     }
@@ -100,6 +129,35 @@ pub fn plan_into(plant: &[u8], slots: &[u8], out: &mut [u8], length: &mut u64) -
             plant.len(),
             slots_start,
             slots.len(),
+            out_start,
+            out.len(),
+            length,
+        )
+    }
+}
+
+/// Writes the plant file of the weeks after the first `k`: 0 and its length, or
+/// the refusal.
+pub fn roll_into(
+    plant: &[u8],
+    plan: &[u8],
+    k: u64,
+    rates: &[u8],
+    out: &mut [u8],
+    length: &mut u64,
+) -> Refusal {
+    let (plant_start, plan_start) = (plant.as_ptr(), plan.as_ptr());
+    let (rates_start, out_start) = (rates.as_ptr(), out.as_mut_ptr());
+    // SAFETY: as in `slots_into`, with the list of rates as a third input.
+    unsafe {
+        doxkarin_roll(
+            plant_start,
+            plant.len(),
+            plan_start,
+            plan.len(),
+            k,
+            rates_start,
+            rates.len(),
             out_start,
             out.len(),
             length,

@@ -172,7 +172,8 @@ fn record_balance(plan: &mut Plan, machine: &Machine, week: usize) {
     }
 }
 
-/// Inventory is within storage, and backlog is at most 27 times 100,000,000.
+/// Inventory is within storage, and backlog is at most 1,600,000,000 and 26 times
+/// 100,000,000.
 fn four_bytes(grams: u64) -> u32 {
     u32::try_from(grams).expect("grams of four bytes")
 }

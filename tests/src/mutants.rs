@@ -8,6 +8,7 @@ mod mounted;
 mod orders;
 mod plans;
 mod plants;
+mod rolls;
 mod shut_weeks;
 mod slots;
 
@@ -19,9 +20,12 @@ pub use files::DAMAGES;
 pub use mounted::damage_line;
 pub use plans::PLAN_CHANGES;
 pub use plants::{GROUND_CHANGES, PLANT_CHANGES};
+pub use rolls::ROLL_CHANGES;
 pub use slots::{break_slots_form, SLOTS_CHANGES};
 
 pub type PlantChange = fn(&mut Random, &mut Plant);
 pub type SlotsChange = fn(&mut Random, &mut Plant, &mut Slots);
 pub type PlanChange = fn(&mut Random, &mut Plant, &Slots, &mut Plan);
+/// Gives the count of weeks that have run where the plant is rolled.
+pub type RollChange = fn(&mut Random, &mut Plant, &mut Slots) -> u64;
 pub type Damage = fn(&mut Random, &mut Parts);

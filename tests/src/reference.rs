@@ -1,10 +1,9 @@
-//! The three calls in the second implementation: files in, an answer or the
+//! The four calls in the second implementation: files in, an answer or the
 //! refusal out. Everything is read into vectors of its own first.
 
 use crate::forms::{read_plan, read_plant, read_slots};
-use crate::machine;
-use crate::model::{Plan, Refusal, Sizes, Slot, Slots};
-use crate::rules;
+use crate::model::{Plan, Plant, Refusal, Sizes, Slot, Slots};
+use crate::{machine, rolling, rules};
 
 /// Level A: the profit of a plan that passes.
 pub fn check(plant: &[u8], plan: &[u8]) -> Result<i64, Refusal> {
@@ -21,10 +20,22 @@ pub fn plan(plant: &[u8], slots: &[u8], out: &mut [u8]) -> Result<usize, Refusal
     write(&plan_file(plant, slots), out)
 }
 
+/// Writes the plant file of the weeks that remain after the first `k` of a plan
+/// that passes, with new rates.
+pub fn roll(
+    plant: &[u8],
+    plan: &[u8],
+    k: u64,
+    rates: &[u8],
+    out: &mut [u8],
+) -> Result<usize, Refusal> {
+    write(&rolled_plant_file(plant, plan, k, rates), out)
+}
+
 /// The slot file of a plan that passes.
 pub fn slot_file(plant: &[u8], plan: &[u8]) -> Result<Vec<u8>, Refusal> {
-    let (sizes, plan) = passed(plant, plan)?;
-    Ok(shown(sizes, &plan).encode())
+    let (plant, plan) = passed(plant, plan)?;
+    Ok(shown(plant.sizes, &plan).encode())
 }
 
 /// The plan file of a slot file's run.
@@ -32,6 +43,18 @@ pub fn plan_file(plant: &[u8], slots: &[u8]) -> Result<Vec<u8>, Refusal> {
     let plant = read_plant(plant)?;
     let slots = read_slots(&plant, slots)?;
     Ok(machine::run(&plant, &slots)?.encode())
+}
+
+/// The plant file of the weeks that remain after the first `k` of a plan that
+/// passes, with new rates.
+pub fn rolled_plant_file(
+    plant: &[u8],
+    plan: &[u8],
+    k: u64,
+    rates: &[u8],
+) -> Result<Vec<u8>, Refusal> {
+    let (plant, plan) = passed(plant, plan)?;
+    Ok(rolling::roll(&plant, &plan, k, rates)?.encode())
 }
 
 /// The slots that a plan shows: each week's products in the order of O, with
@@ -54,12 +77,12 @@ pub fn shown(sizes: Sizes, plan: &Plan) -> Slots {
     slots
 }
 
-/// Reads both files and tries the rules.
-fn passed(plant: &[u8], plan: &[u8]) -> Result<(Sizes, Plan), Refusal> {
+/// Reads both files and tries the rules: a plant, and a plan that passes.
+pub fn passed(plant: &[u8], plan: &[u8]) -> Result<(Plant, Plan), Refusal> {
     let plant = read_plant(plant)?;
     let plan = read_plan(&plant, plan)?;
     match rules::first_broken(&plant, &plan) {
-        None => Ok((plant.sizes, plan)),
+        None => Ok((plant, plan)),
         Some(rule) => Err(rule),
     }
 }

@@ -1,10 +1,11 @@
 //! Random plants of every size, each with slots and sales that mostly run
 //! without a stop. In three of ten weeks are shut; half are of kind 4, mostly with
-//! a product mounted.
+//! a product mounted, and half of these may owe more at first than kind 1 may.
 
 use std::ops::RangeInclusive;
 
-use crate::model::{OpeningLine, Plant, Sizes, Slot, Slots, Storage};
+use crate::forms::most_opening_backlog;
+use crate::model::{Kind, OpeningLine, Plant, Sizes, Slot, Slots, Storage};
 use crate::random::Random;
 use crate::samples;
 
@@ -49,7 +50,7 @@ pub type Sort = fn(&Plant, &Slots) -> bool;
 /// The sorts of shut weeks: which they are, what is made before and after, and
 /// sales. Then those of the line before week 0: the plant's kind, what is mounted,
 /// and what runs first.
-pub const SORTS: [(&str, Sort); 16] = [
+pub const SORTS: [(&str, Sort); 17] = [
     ("shut: the first week and not all", |_, slots| {
         slots.counts[0] == 0 && !producing_weeks(slots).is_empty()
     }),
@@ -100,6 +101,9 @@ pub const SORTS: [(&str, Sort); 16] = [
     }),
     ("kind 4: after a shut week", |plant, _| {
         plant.opening_line.is_some_and(|line| line.was_shut == 1)
+    }),
+    ("kind 4: more owed at first than in kind 1", |plant, _| {
+        plant.opening_backlog.iter().any(|&owed| owed > most_opening_backlog(Kind::Plant))
     }),
 ];
 
@@ -226,6 +230,8 @@ fn plant(random: &mut Random, sizes: Sizes) -> Plant {
         MOST_MINUTES,
     ]));
     let changeover_minutes = square(random, sizes, most_changeover.min(MOST_MINUTES.into()));
+    let opening_line = opening_line(random, sizes);
+    let most_owed = most_owed(random, opening_line);
     Plant {
         rates: numbers(random, sizes.products, 1..=100_000),
         changeover_minutes: changeover_minutes.iter().map(|&minutes| minutes as u16).collect(),
@@ -235,12 +241,22 @@ fn plant(random: &mut Random, sizes: Sizes) -> Plant {
         backlog_costs: numbers(random, by_customer, 0..=100_000),
         inventory_costs: numbers(random, sizes.products, 0..=100_000),
         opening_inventory: numbers(random, sizes.products, 0..=MOST_STORAGE as u32),
-        opening_backlog: numbers(random, by_customer, 0..=100_000_000),
+        opening_backlog: numbers(random, by_customer, 0..=most_owed),
         shortest_run,
         week_minutes,
-        opening_line: opening_line(random, sizes),
+        opening_line,
         ..samples::least_plant(sizes)
     }
+}
+
+/// What may be owed before week 0. Half of the plants of kind 4 owe as much as one
+/// of kind 1 may.
+fn most_owed(random: &mut Random, opening_line: Option<OpeningLine>) -> u32 {
+    let kinds = match opening_line {
+        None => [Kind::Plant; 2],
+        Some(_) => [Kind::Plant, Kind::MountedPlant],
+    };
+    most_opening_backlog(random.pick(&kinds))
 }
 
 /// Section 12 in half of the plants, mostly with a product mounted.

@@ -8,12 +8,18 @@
 //! either the marks and places vary over the numbers of each run, or the numbers
 //! over the marks of each run. Most plants are tried with nothing mounted, and
 //! then with each product.
+//!
+//! Rolling on by brute force: after every count of weeks of every plan that the runs
+//! give, every slot file of the weeks that remain runs on the rolled plant as it does
+//! after the first weeks in the whole run, with the same tables or the same stop.
 
 use std::collections::{BTreeMap, BTreeSet};
 use std::ops::Range;
 
-use doxkarin_tests::model::{OpeningLine, Plant, Sizes, Slot, Slots, Storage};
-use doxkarin_tests::{library, reference, samples};
+use doxkarin_tests::forms::{read_plan, read_plant, read_slots};
+use doxkarin_tests::model::{OpeningLine, Plant, Refusal, Sizes, Slot, Slots, Storage};
+use doxkarin_tests::rolls::rate_list;
+use doxkarin_tests::{horizon, library, reference, samples};
 
 type File = Vec<u8>;
 
@@ -496,5 +502,120 @@ fn two_products_four_weeks() {
         let mut passed = Passed::new(&plant_file, &given);
         passed.try_around(&cells(&given, &[(4, MARKS)]));
         passed.assert_all(1_000_000, 81);
+    }
+}
+
+/// The plan file that a run gives, or its stop.
+fn plan_file(plant: &[u8], slots: &Slots) -> Result<File, Refusal> {
+    let mut out = vec![0xa5; 1000];
+    let length = library::plan(plant, &slots.encode(), &mut out)?;
+    out.truncate(length);
+    Ok(out)
+}
+
+/// Every slot file of a plant whose weeks are these lists of slots.
+fn slot_files(plant: &Plant, rows: &[Vec<Slot>], sales: &[u32]) -> Vec<Slots> {
+    let Sizes { products, customers, weeks } = plant.sizes;
+    let all_sales = lists(sales, customers * products * weeks);
+    let with_sales =
+        |rows: Vec<Vec<Slot>>| all_sales.iter().map(move |s| Slots::from_rows(&rows, s.clone()));
+    lists(rows, weeks).into_iter().flat_map(with_sales).collect()
+}
+
+/// The rolled plant after the first `k` weeks of each run, by the slot file of these
+/// weeks. Runs that are the same so far give the same plant.
+fn rolled_plants(plant: &Plant, given: &BTreeMap<File, File>, k: usize) -> BTreeMap<File, File> {
+    let (plant_file, rates) = (plant.encode(), rate_list(&plant.rates));
+    let mut rolled = BTreeMap::new();
+    for (plan, slots) in given {
+        let slots = read_slots(plant, slots).expect("a slot file that ran");
+        let mut out = vec![0xa5; 1000];
+        let length = library::roll(&plant_file, plan, k as u64, &rates, &mut out);
+        out.truncate(length.expect("weeks remain"));
+        assert!(
+            reference::rolled_plant_file(&plant_file, plan, k as u64, &rates) == Ok(out.clone())
+        );
+        let first = horizon::slots(plant.sizes, &slots, 0..k).encode();
+        let same = rolled.entry(first).or_insert_with(|| out.clone());
+        assert!(*same == out, "the later weeks change the rolled plant");
+    }
+    rolled
+}
+
+/// Asserts that after every count of weeks every slot file runs on as in the whole
+/// run: so many times to a plan, and so many times to a stop.
+fn assert_runs_on(plant: &Plant, rows: &[Vec<Slot>], sales: &[u32], runs: usize, stops: usize) {
+    let (sizes, plant_file) = (plant.sizes, plant.encode());
+    let given = runs_of_rows(plant, rows, sales);
+    let all = slot_files(plant, rows, sales);
+    let (mut run, mut stopped) = (0, 0);
+    for k in 1..sizes.weeks {
+        let rolled_plants = rolled_plants(plant, &given, k);
+        for slots in &all {
+            let first = horizon::slots(sizes, slots, 0..k).encode();
+            let Some(rolled_file) = rolled_plants.get(&first) else { continue };
+            let later = horizon::slots(sizes, slots, k..sizes.weeks);
+            let rest = plan_file(rolled_file, &later);
+            match plan_file(&plant_file, slots) {
+                Ok(whole) => {
+                    let whole = read_plan(plant, &whole).expect("a plan was written");
+                    let expected = horizon::plan(plant, &whole, k..sizes.weeks);
+                    assert!(rest == Ok(expected.encode()), "{k} {slots:?}");
+                    let purse = horizon::plan(plant, &whole, 0..k).profit;
+                    assert_eq!(purse + expected.profit, whole.profit, "{k} {slots:?}");
+                    run += 1;
+                }
+                Err(stop) => {
+                    assert_eq!(rest, Err(stop), "{k} {slots:?}");
+                    stopped += 1;
+                }
+            }
+        }
+        for rolled in rolled_plants.values() {
+            let rolled = read_plant(rolled).expect("a plant was written");
+            assert_eq!(rolled.sizes, Sizes { weeks: sizes.weeks - k, ..sizes });
+        }
+    }
+    println!("{run} run on, {stopped} stop");
+    assert_eq!((run, stopped), (runs, stops));
+}
+
+/// The plant with other demand in each week, and something owed at first.
+fn uneven(mut plant: Plant) -> Plant {
+    for (demand, grams) in plant.demand.iter_mut().zip([1, 0, 2, 1].into_iter().cycle()) {
+        *demand = grams;
+    }
+    plant.opening_backlog[0] = 1;
+    plant
+}
+
+#[test]
+fn one_product_of_two_weeks_runs_on() {
+    for plant in bare_and_each_mounted(&uneven(tiny_plant(1, 1, 2))) {
+        assert_runs_on(&plant, &rows(1, 1, &[0, 1, 2, 3]), &[0, 1, 2], 41, 79);
+    }
+}
+
+#[test]
+fn one_product_of_three_weeks_runs_on() {
+    for plant in bare_and_each_mounted(&uneven(tiny_plant(1, 1, 3))) {
+        assert_runs_on(&plant, &rows(1, 1, &[0, 1, 2]), &[0, 1, 2], 408, 840);
+    }
+}
+
+#[test]
+fn two_products_of_two_weeks_run_on() {
+    let mut plant = uneven(tiny_plant(2, 1, 2));
+    plant.opening_inventory = vec![1, 0];
+    assert_runs_on(&plant, &rows(2, 2, &[0, 1, 2]), &[0, 1], 713, 4963);
+    for plant in each_mounted(&plant) {
+        assert_runs_on(&plant, &rows(2, 2, &[0, 1, 2]), &[0, 1], 593, 4051);
+    }
+}
+
+#[test]
+fn two_products_of_three_weeks_run_on() {
+    for plant in bare_and_each_mounted(&uneven(roomy_plant(3))) {
+        assert_runs_on(&plant, &rows(2, 2, &[1]), &[0, 1], 6424, 9396);
     }
 }

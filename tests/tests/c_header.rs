@@ -24,7 +24,7 @@ fn program() -> PathBuf {
 }
 
 #[test]
-fn a_c_program_makes_the_three_calls() {
+fn a_c_program_makes_the_four_calls() {
     let data = repository().join("crates/formcheck/data");
     let program = program();
     let run = |names: [&str; 3]| {
@@ -36,23 +36,23 @@ fn a_c_program_makes_the_three_calls() {
     };
     assert_eq!(
         run(["plant.bin", "plan.bin", "slots.bin"]),
-        "check 0 8650000\nslots 0 same\nplan 0 same\n"
+        "check 0 8650000\nslots 0 same\nplan 0 same\nroll 0 215 bytes, 1 mounted\n"
     );
     // Kind 4: the small plant with nothing mounted, and with B.
     assert_eq!(
         run(["plant-0-nothing-mounted.bin", "plan.bin", "slots.bin"]),
-        "check 0 8650000\nslots 0 same\nplan 0 same\n"
+        "check 0 8650000\nslots 0 same\nplan 0 same\nroll 0 215 bytes, 1 mounted\n"
     );
     assert_eq!(
         run(["plant-0-mounted.bin", "plan.bin", "slots.bin"]),
-        "check 33 0\nslots 33 different\nplan 0 different\n"
+        "check 33 0\nslots 33 different\nplan 0 different\nroll 33\n"
     );
     assert_eq!(
         run(["plant-3-weeks.bin", "plan.bin", "slots.bin"]),
-        "check 3 0\nslots 3 different\nplan 3 different\n"
+        "check 3 0\nslots 3 different\nplan 3 different\nroll 3\n"
     );
     assert_eq!(
         run(["plant.bin", "plan-14-ran.bin", "slots-24-product.bin"]),
-        "check 14 0\nslots 14 different\nplan 24 different\n"
+        "check 14 0\nslots 14 different\nplan 24 different\nroll 14\n"
     );
 }

@@ -4,10 +4,11 @@
 
 use doxkarin_tests::differential::{run, CALLS};
 use doxkarin_tests::model::{Refusal, Sizes};
+use doxkarin_tests::rolls::rate_list;
 use doxkarin_tests::{library, reference, small};
 
 const SEED: u64 = 20_260_101;
-const CASES: u64 = 400_000;
+const CASES: u64 = 600_000;
 
 #[test]
 fn random_files_give_the_same_answers() {
@@ -35,12 +36,17 @@ fn random_files_give_the_same_answers() {
         println!("{passed} {name}");
         assert!(passed >= 100, "{passed} plans of this sort passed: {name}");
     }
+    for (name, rolls) in counts.roll_sorts() {
+        println!("{rolls} {name}");
+        assert!(rolls >= 100, "{rolls} rolls are of this sort: {name}");
+    }
 }
 
 /// What an output holds before each call.
 const UNTOUCHED: [u8; 400] = [0xa5; 400];
 
-/// Asserts that all three calls agree on these files: the numbers that check and plan return.
+/// Asserts that all four calls agree on these files: the numbers that check and plan return.
+/// The plant is rolled on after its first week, with the small plant's rates.
 fn assert_same(plant: &[u8], plan: &[u8], slots: &[u8]) -> [Refusal; 2] {
     let checked = reference::check(plant, plan);
     assert_eq!(library::check(plant, plan), checked);
@@ -53,7 +59,19 @@ fn assert_same(plant: &[u8], plan: &[u8], slots: &[u8]) -> [Refusal; 2] {
     let written = reference::plan(plant, slots, &mut other);
     assert_eq!(library::plan(plant, slots, &mut one), written);
     assert!(one == other);
+
+    let rolled = assert_rolls_alike(plant, plan, 1, &rate_list(&small::plant().rates));
+    assert_eq!(rolled, checked.err().unwrap_or(0));
     [checked.err().unwrap_or(0), written.err().unwrap_or(0)]
+}
+
+/// Asserts that both implementations roll these files alike: the number.
+fn assert_rolls_alike(plant: &[u8], plan: &[u8], k: u64, rates: &[u8]) -> Refusal {
+    let (mut one, mut other) = (UNTOUCHED, UNTOUCHED);
+    let rolled = reference::roll(plant, plan, k, rates, &mut other);
+    assert_eq!(library::roll(plant, plan, k, rates, &mut one), rolled);
+    assert!(one == other);
+    rolled.err().unwrap_or(0)
 }
 
 /// Lets every byte of these files take every value: the numbers that the calls
@@ -113,4 +131,39 @@ fn the_small_files_are_cut_anywhere() {
     let right =
         [small::mounted_plant().encode(), small::mounted_plan().encode(), small::slots().encode()];
     cut_anywhere(right, [110, 110, 29]);
+}
+
+/// Every byte of the small plants' lists of rates takes every value, and the lists are
+/// cut and stretched, after each count of weeks.
+#[test]
+fn every_byte_of_a_list_of_rates_takes_every_value() {
+    let rates = rate_list(&small::plant().rates);
+    for (plant, plan) in [
+        (small::plant(), small::plan()),
+        (small::mounted_plant(), small::mounted_plan()),
+        (small::long_plant(), small::long_plan()),
+    ] {
+        let weeks = plant.sizes.weeks as u64;
+        let (plant, plan) = (plant.encode(), plan.encode());
+        for k in 0..=weeks + 1 {
+            let remain = (1..weeks).contains(&k);
+            let mut numbers = Vec::new();
+            for place in 0..rates.len() {
+                for value in 0..=255 {
+                    let mut rates = rates.clone();
+                    rates[place] = value;
+                    numbers.push(assert_rolls_alike(&plant, &plan, k, &rates));
+                }
+            }
+            numbers.sort_unstable();
+            numbers.dedup();
+            assert_eq!(numbers, if remain { vec![0, 5] } else { vec![61] }, "{k}");
+            for length in 0..20 {
+                let rates: Vec<u8> = rates.iter().copied().cycle().take(length).collect();
+                let number = assert_rolls_alike(&plant, &plan, k, &rates);
+                let of_list = if length == 8 { 0 } else { 4 };
+                assert_eq!(number, if remain { of_list } else { 61 }, "{k} {length}");
+            }
+        }
+    }
 }

@@ -6,7 +6,7 @@ use std::path::Path;
 
 use doxkarin_tests::model::{Plan, Plant, Slot, Slots};
 use doxkarin_tests::scenario::greatest_sizes;
-use doxkarin_tests::{samples, small};
+use doxkarin_tests::{reference, rolls, samples, small};
 
 fn document() -> String {
     let path = Path::new(env!("CARGO_MANIFEST_DIR")).join("../docs/FORMATS.md");
@@ -45,10 +45,14 @@ fn the_document_shows_the_small_plants_files() {
     let slots = small::slots().encode();
     let by_four: &[usize] = &[4];
     let mounted = small::mounted_plant().encode();
+    let rates = rolls::rate_list(&small::plant().rates);
+    let rolled =
+        reference::rolled_plant_file(&plant, &plan, 1, &rates).expect("a plan that passes");
     let mut widths = [by_four; 12];
     (widths[0], widths[2], widths[10], widths[11]) = (&[1], &[2], &[2], &[1]);
     assert!(document.contains(&table(&plant, &widths[..11])));
     assert!(document.contains(&table(&mounted, &widths)));
+    assert!(document.contains(&table(&rolled, &widths)));
     let mut widths = [by_four; 12];
     widths[..6].fill(&[1]);
     (widths[6], widths[11]) = (&[2], &[8]);
@@ -59,8 +63,13 @@ fn the_document_shows_the_small_plants_files() {
         let bytes: Vec<String> = line.iter().map(|byte| format!("{byte:02x}")).collect();
         assert!(document.contains(&format!("\n    {}\n", bytes.join(" "))));
     }
-    let files =
-        [(&plant, "Plant"), (&mounted, "Plant with B mounted"), (&slots, "Slots"), (&plan, "Plan")];
+    let files = [
+        (&plant, "Plant"),
+        (&mounted, "Plant with B mounted"),
+        (&rolled, "Plant after one week"),
+        (&slots, "Slots"),
+        (&plan, "Plan"),
+    ];
     for (file, name) in files {
         let start = format!("{name}, {} bytes, `{:02x} {:02x}` ", file.len(), file[0], file[1]);
         assert!(document.contains(&start), "{start}");

@@ -1,8 +1,9 @@
 //! The reader of the file forms against the layout, row by row.
 
-use doxkarin_tests::forms::{read_plan, read_plant, read_slots};
+use doxkarin_tests::forms::{read_plan, read_plant, read_rates, read_slots};
 use doxkarin_tests::layout::Parts;
 use doxkarin_tests::model::{Kind, OpeningLine, Plant, Refusal, Sizes, Slot, Slots, Storage};
+use doxkarin_tests::rolls::rate_list;
 use doxkarin_tests::{samples, small};
 
 /// One kind of file: its first section, its right bodies, and the refusal of a
@@ -189,7 +190,7 @@ fn a_week_has_up_to_as_many_slots_as_products() {
 #[test]
 fn every_plant_number_has_its_range() {
     type Change = fn(&mut Plant, u32);
-    let greatest: [(u32, Change); 13] = [
+    let greatest: [(u32, Change); 12] = [
         (100_000, |plant, value| plant.rates[1] = value),
         (10_080, |plant, value| plant.changeover_minutes[2] = value as u16),
         (0, |plant, value| plant.changeover_minutes[0] = value as u16),
@@ -203,7 +204,6 @@ fn every_plant_number_has_its_range() {
             plant.storage[1] = Storage { least: value, greatest: value }
         }),
         (4_000_000_000, |plant, value| plant.opening_inventory[1] = value),
-        (100_000_000, |plant, value| plant.opening_backlog[1] = value),
         (10_080, |plant, value| plant.week_minutes = value as u16),
     ];
     let least: [(u32, Change); 3] = [
@@ -228,6 +228,47 @@ fn every_plant_number_has_its_range() {
         let limits = Storage { least: 1, greatest: 0 };
         let plant = Plant { storage: vec![limits; 2], ..right };
         assert_eq!(read_plant(&plant.encode()), Err(5));
+    }
+}
+
+/// Kind 4 may owe more at first than kind 1.
+#[test]
+fn the_opening_backlog_has_the_range_of_its_kind() {
+    for (right, greatest) in
+        [(small::plant(), 100_000_000), (small::mounted_plant(), 1_600_000_000)]
+    {
+        for place in 0..right.opening_backlog.len() {
+            let number = |backlog| {
+                let mut plant = right.clone();
+                plant.opening_backlog[place] = backlog;
+                read_plant(&plant.encode()).err()
+            };
+            assert_eq!(number(greatest), None, "{place}");
+            assert_eq!(number(greatest + 1), Some(5), "{place}");
+            assert_eq!(number(u32::MAX), Some(5), "{place}");
+        }
+    }
+}
+
+#[test]
+fn rates_are_read() {
+    let sizes = Sizes { products: 3, customers: 2, weeks: 1 };
+    let list = rate_list(&[1, 65_536, 100_000]);
+    assert_eq!(list, [1, 0, 0, 0, 0, 0, 1, 0, 0xa0, 0x86, 1, 0]);
+    assert_eq!(read_rates(sizes, &list), Ok(vec![1, 65_536, 100_000]));
+    for length in 0..12 {
+        assert_eq!(read_rates(sizes, &list[..length]), Err(4), "{length}");
+    }
+    assert_eq!(read_rates(sizes, &[&list[..], &[0]].concat()), Err(4));
+    // The length goes before the range.
+    assert_eq!(read_rates(sizes, &[0; 11]), Err(4));
+    assert_eq!(read_rates(sizes, &[0; 12]), Err(5));
+    for place in 0..3 {
+        for (rate, expected) in [(0, Some(5)), (1, None), (100_000, None), (100_001, Some(5))] {
+            let mut rates = [7; 3];
+            rates[place] = rate;
+            assert_eq!(read_rates(sizes, &rate_list(&rates)).err(), expected, "{place} {rate}");
+        }
     }
 }
 

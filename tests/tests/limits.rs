@@ -1,8 +1,9 @@
-//! The least and the greatest plant of both kinds, the most slots and none, sales of
-//! more than 2^32 grams in a week, files and outputs of more than 2^32 bytes, and
-//! files of another kind.
+//! The least and the greatest plant of both kinds, also rolled on, the most slots and
+//! none, the most that can be owed, sales of more than 2^32 grams in a week, files and
+//! outputs of more than 2^32 bytes, and files of another kind.
 
 use doxkarin_tests::model::{OpeningLine, Plant, Refusal, Sizes, Slot, Slots, Storage};
+use doxkarin_tests::rolls::rate_list;
 use doxkarin_tests::scenario::greatest_sizes;
 use doxkarin_tests::{following, library, reference, samples, small};
 
@@ -33,6 +34,8 @@ fn assert_refused(plant: &Plant, slots: &Slots, number: Refusal) {
     assert_eq!(reference::slots(&plant, &plan, &mut out), Err(number));
     assert_eq!(library::plan(&plant, &slots, &mut out), Err(number));
     assert_eq!(reference::plan(&plant, &slots, &mut out), Err(number));
+    assert_eq!(library::roll(&plant, &plan, 1, &[], &mut out), Err(number));
+    assert_eq!(reference::roll(&plant, &plan, 1, &[], &mut out), Err(number));
 }
 
 /// The plant of kind 4 with this product mounted.
@@ -75,6 +78,76 @@ fn the_greatest_plant_is_shut() {
     let plant = mounted(&plant, 15);
     assert_eq!(plant.encode().len(), 16_812 + 9 + 2);
     assert_runs(&plant, &slots, -inventory - backlog);
+}
+
+/// The most that may be owed at first, and the most demand, of which nothing is sold:
+/// 4,200,000,000 are owed in the end, which four bytes hold.
+#[test]
+fn the_most_is_owed() {
+    let mut plant = mounted(&samples::greatest_plant(), 15);
+    plant.opening_backlog.fill(1_600_000_000);
+    let slots = Slots::from_rows(&vec![Vec::new(); 26], vec![0; plant.demand.len()]);
+    let unit = 100_000;
+    let inventory = 26 * 16 * unit * 4_000_000_000;
+    let backlog: i64 = (1..=26).map(|week| 8 * 16 * unit * (16 + week) * 100_000_000).sum();
+    assert_runs(&plant, &slots, -inventory - backlog);
+    let plan = following::plan(&plant, &slots);
+    let owed_last: Vec<u32> = plan.backlog.iter().copied().skip(25).step_by(26).collect();
+    assert_eq!(owed_last, [4_200_000_000; 128]);
+
+    // All of it can be sold, from what there is in stock.
+    let sizes = Sizes { products: 1, customers: 1, weeks: 26 };
+    let mut plant = mounted(&samples::least_plant(sizes), 0);
+    plant.rates[0] = 100_000;
+    plant.week_minutes = 10_080;
+    plant.storage[0].greatest = 4_000_000_000;
+    plant.opening_inventory[0] = 4_000_000_000;
+    plant.opening_backlog[0] = 1_600_000_000;
+    plant.demand.fill(100_000_000);
+    plant.prices[0] = 100_000;
+    let mut rows = vec![Vec::new(); 26];
+    rows[25] = vec![Slot { product: 0, minutes: 2000 }];
+    let mut sales = vec![0; 26];
+    sales[25] = 4_200_000_000;
+    assert_runs(&plant, &Slots::from_rows(&rows, sales.clone()), 100_000 * 4_200_000_000);
+    sales[25] += 1;
+    rows[25][0].minutes = 2001;
+    assert_refused(&plant, &Slots::from_rows(&rows, sales), 38);
+}
+
+/// One gram more may not be owed at first, in any call.
+#[test]
+fn more_than_the_most_is_not_owed() {
+    for (plant, most) in [(small::plant(), 100_000_000), (small::mounted_plant(), 1_600_000_000)] {
+        let owing = |owed| Plant { opening_backlog: vec![0, owed], ..plant.clone() };
+        let profit = following::plan(&owing(most), &small::slots()).profit;
+        assert_runs(&owing(most), &small::slots(), profit);
+        assert_refused(&owing(most + 1), &small::slots(), 5);
+        assert_refused(&owing(u32::MAX), &small::slots(), 5);
+    }
+}
+
+/// The greatest plant after each week, of which the first is the longest.
+#[test]
+fn the_greatest_plant_is_rolled() {
+    let mut plant = mounted(&samples::greatest_plant(), 15);
+    plant.opening_backlog.fill(1_600_000_000);
+    plant.demand.fill(0);
+    let slots = Slots::from_rows(&vec![Vec::new(); 26], vec![0; plant.demand.len()]);
+    let plan = following::plan(&plant, &slots).encode();
+    let rates = rate_list(&plant.rates);
+    for k in 1..26 {
+        let weeks = 26 - k;
+        let sizes = Sizes { weeks, ..plant.sizes };
+        let demand = vec![0; 128 * weeks];
+        let expected = Plant { sizes, demand, ..plant.clone() }.encode();
+        assert_eq!(expected.len(), 16_823 - 512 * k);
+        let mut out = vec![0xa5; expected.len()];
+        let length = library::roll(&plant.encode(), &plan, k as u64, &rates, &mut out);
+        assert_eq!(length, Ok(expected.len()));
+        assert!(out == expected, "{k}");
+        assert!(reference::rolled_plant_file(&plant.encode(), &plan, k as u64, &rates) == Ok(out));
+    }
 }
 
 /// The first and the last of 26 weeks produce. The changeover over 24 shut weeks is
@@ -223,9 +296,16 @@ fn lengths_beyond_32_bits_count() {
     }
     long[..plan.len()].copy_from_slice(plan);
     assert_eq!(library::check(plant, &long[..BEYOND + plan.len()]), Err(12));
+    let rates = rate_list(&small::plant().rates);
+    assert_eq!(library::roll(plant, &long[..BEYOND + plan.len()], 1, &rates, &mut out), Err(12));
     long[..300].fill(0);
     long[..slots.len()].copy_from_slice(slots);
     assert_eq!(library::plan(plant, &long[..BEYOND + slots.len()], &mut out), Err(22));
+    long[..300].fill(0);
+    long[..rates.len()].copy_from_slice(&rates);
+    let long_rates = &long[..BEYOND + rates.len()];
+    assert_eq!(library::roll(plant, plan, 1, long_rates, &mut out), Err(4));
+    assert_eq!(library::roll(plant, plan, (1 << 32) + 1, &rates, &mut out), Err(61));
     assert_eq!(out, [0xa5; 300]);
 
     long[..300].fill(0xa5);
@@ -234,6 +314,10 @@ fn lengths_beyond_32_bits_count() {
     long[..300].fill(0xa5);
     assert_eq!(library::slots(plant, plan, &mut long[..BEYOND]), Ok(slots.len()));
     assert!(long[..slots.len()] == **slots && long[slots.len()..300] == out[slots.len()..]);
+    let rolled = reference::rolled_plant_file(plant, plan, 1, &rates).expect("a week remains");
+    long[..300].fill(0xa5);
+    assert_eq!(library::roll(plant, plan, 1, &rates, &mut long[..BEYOND]), Ok(rolled.len()));
+    assert!(long[..rolled.len()] == *rolled && long[rolled.len()..300] == out[rolled.len()..]);
 }
 
 #[test]
@@ -249,6 +333,9 @@ fn a_file_of_another_kind_is_refused() {
         assert_eq!(library::plan(&plant, &plan, &mut out), Err(21));
         assert_eq!(library::plan(&plant, &plant, &mut out), Err(21));
         assert_eq!(library::plan(&slots, &slots, &mut out), Err(1));
+        assert_eq!(library::roll(&plan, &plan, 1, &[], &mut out), Err(1));
+        assert_eq!(library::roll(&plant, &slots, 1, &[], &mut out), Err(11));
+        assert_eq!(library::roll(&plant, &plant, 1, &[], &mut out), Err(11));
     }
     assert_eq!(out, [0xa5; 300]);
 }

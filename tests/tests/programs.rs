@@ -1,12 +1,14 @@
-//! The programs `planslots` and `planwrite`, run on files.
+//! The programs `planslots`, `planwrite` and `planroll`, run on files.
 
 use std::fs;
 use std::path::{Path, PathBuf};
 use std::process::{Command, Output};
 
+use doxkarin_tests::model::{OpeningLine, Plant};
 use doxkarin_tests::random::Random;
+use doxkarin_tests::rolls::{any_k, any_rates, rate_list};
 use doxkarin_tests::scenario::{greatest_sizes, sizes, Scenario};
-use doxkarin_tests::{facts, following, reference, small};
+use doxkarin_tests::{facts, following, machine, reference, small};
 
 /// What an output file holds before a program runs.
 const OLD: &[u8] = b"as it was";
@@ -42,18 +44,32 @@ fn assert_gives(
     input: &[u8],
     expected: &Result<Vec<u8>, u32>,
 ) {
+    let files = [("plant.bin", plant), ("input.bin", input)];
+    assert_gives_of(program, name, &files, &["plant.bin", "input.bin"], expected);
+}
+
+/// The same of these files and arguments, the last of which is the output file.
+fn assert_gives_of(
+    program: &str,
+    name: &str,
+    files: &[(&str, &[u8])],
+    arguments: &[&str],
+    expected: &Result<Vec<u8>, u32>,
+) {
     let folder = empty_folder(name);
-    fs::write(folder.join("plant.bin"), plant).expect("a plant file");
-    fs::write(folder.join("input.bin"), input).expect("an input file");
+    for (file, bytes) in files {
+        fs::write(folder.join(file), bytes).expect("a file for the program");
+    }
     fs::write(folder.join("old.bin"), OLD).expect("an output file");
     let text = match expected {
         Ok(file) => format!("written {}\n", file.len()),
         Err(number) => format!("refused {number}\n"),
     };
     for out in ["old.bin", "new.bin"] {
-        let output = run(program, &folder, &["plant.bin", "input.bin", out]);
+        let output = run(program, &folder, &[arguments, &[out]].concat());
         assert_eq!(String::from_utf8_lossy(&output.stdout), text, "{name}");
         assert!(output.stderr.is_empty(), "{name}");
+        assert!(output.status.success(), "{name}");
     }
     let old = fs::read(folder.join("old.bin")).expect("the output file");
     match expected {
@@ -68,8 +84,18 @@ fn assert_gives(
         }
     }
     // The inputs are as they were.
-    assert!(fs::read(folder.join("plant.bin")).expect("the plant file") == plant, "{name}");
-    assert!(fs::read(folder.join("input.bin")).expect("the input file") == input, "{name}");
+    for (file, bytes) in files {
+        assert!(fs::read(folder.join(file)).expect("the file") == *bytes, "{name} {file}");
+    }
+}
+
+/// Asserts what `planroll` prints and leaves of these files, as the second
+/// implementation has it.
+fn assert_rolls(name: &str, plant: &[u8], plan: &[u8], k: u64, rates: &[u8]) {
+    let expected = reference::rolled_plant_file(plant, plan, k, rates);
+    let files = [("plant.bin", plant), ("plan.bin", plan), ("rates.bin", rates)];
+    let arguments = ["plant.bin", "plan.bin", &k.to_string(), "rates.bin"];
+    assert_gives_of("planroll", name, &files, &arguments, &expected);
 }
 
 #[test]
@@ -97,6 +123,40 @@ fn shut_weeks_go_both_ways() {
 }
 
 #[test]
+fn the_small_plants_are_rolled_on() {
+    for (name, plant, plan) in [
+        ("small", small::plant(), small::plan()),
+        ("mounted", small::mounted_plant(), small::mounted_plan()),
+        ("shut", small::long_plant(), small::long_plan()),
+    ] {
+        let name = format!("{name}-roll");
+        let (weeks, rates) = (plant.sizes.weeks as u64, rate_list(&plant.rates));
+        let (plant, plan) = (plant.encode(), plan.encode());
+        for k in (0..=weeks + 1).chain([256 + 1, (1 << 32) + 1, u64::MAX]) {
+            assert_rolls(&name, &plant, &plan, k, &rates);
+        }
+        for rates in [rate_list(&[7, 100_000]), rate_list(&[0, 1]), Vec::new(), vec![1; 65_544]] {
+            assert_rolls(&name, &plant, &plan, 1, &rates);
+        }
+    }
+}
+
+/// What is owed of B after the first week at the limit, and beyond it.
+#[test]
+fn what_is_owed_is_rolled_on_or_refused() {
+    let mut slots = small::slots();
+    slots.sales[2] = 0;
+    let opening_line = Some(OpeningLine { mounted: 255, was_shut: 1 });
+    for (owed, expected) in [(1_599_900_000, None), (1_599_900_001, Some(62))] {
+        let plant = Plant { opening_backlog: vec![0, owed], opening_line, ..small::plant() };
+        let plan = machine::run(&plant, &slots).expect("the run never stops");
+        let (plant, plan, rates) = (plant.encode(), plan.encode(), rate_list(&[100, 50]));
+        assert_eq!(reference::rolled_plant_file(&plant, &plan, 1, &rates).err(), expected);
+        assert_rolls("owed", &plant, &plan, 1, &rates);
+    }
+}
+
+#[test]
 fn the_facts_are_returned_or_refused() {
     for fact in facts::all() {
         let (plant, plan) = (fact.plant.encode(), fact.plan.encode());
@@ -106,6 +166,8 @@ fn the_facts_are_returned_or_refused() {
             let expected = fact.answer.map(|_| plan);
             assert_gives("planwrite", &fact.plan_name(), &plant, &slots.encode(), &expected);
         }
+        let (plant, plan) = (fact.plant.encode(), fact.plan.encode());
+        assert_rolls(&fact.plan_name(), &plant, &plan, 1, &rate_list(&fact.plant.rates));
     }
 }
 
@@ -128,6 +190,8 @@ fn random_files_are_written_or_refused() {
             }
             assert_gives(program, "random", &file, input, &expected);
         }
+        let (k, rates) = (any_k(&mut random, sizes.weeks), any_rates(&mut random, &plant));
+        assert_rolls("random", &file, &plan, k, &rates);
     }
     assert!(written > 0 && refused > 0, "{written} written, {refused} refused");
 }
@@ -147,14 +211,38 @@ fn missing_files_are_empty() {
 }
 
 #[test]
+fn missing_files_are_empty_to_planroll() {
+    let folder = empty_folder("missing-roll");
+    fs::write(folder.join("plant.bin"), small::plant().encode()).expect("a plant file");
+    fs::write(folder.join("plan.bin"), small::plan().encode()).expect("a plan file");
+    fs::write(folder.join("rates.bin"), rate_list(&[100, 50])).expect("a list of rates");
+    for (plant, plan, rates, number) in [
+        ("no-plant", "plan.bin", "rates.bin", 1),
+        ("plant.bin", "no-plan", "rates.bin", 11),
+        ("plant.bin", "plan.bin", "no-rates", 4),
+    ] {
+        let output = run("planroll", &folder, &[plant, plan, "1", rates, "out.bin"]);
+        assert_eq!(String::from_utf8_lossy(&output.stdout), format!("refused {number}\n"));
+        assert!(output.stderr.is_empty());
+        assert!(!folder.join("out.bin").exists());
+    }
+}
+
+#[test]
 fn an_output_that_cannot_be_written_is_told() {
     let folder = empty_folder("unwritable");
     fs::write(folder.join("plant.bin"), small::plant().encode()).expect("a plant file");
     fs::write(folder.join("plan.bin"), small::plan().encode()).expect("a plan file");
-    let output = run("planslots", &folder, &["plant.bin", "plan.bin", "no-folder/out.bin"]);
-    assert!(output.stdout.is_empty());
-    let text = String::from_utf8_lossy(&output.stderr).into_owned();
-    assert_eq!(text, "the output file cannot be written\n");
+    fs::write(folder.join("rates.bin"), rate_list(&[100, 50])).expect("a list of rates");
+    for (program, arguments) in [
+        ("planslots", &["plant.bin", "plan.bin", "no-folder/out.bin"][..]),
+        ("planroll", &["plant.bin", "plan.bin", "1", "rates.bin", "no-folder/out.bin"]),
+    ] {
+        let output = run(program, &folder, arguments);
+        assert!(output.stdout.is_empty(), "{program}");
+        let text = String::from_utf8_lossy(&output.stderr).into_owned();
+        assert_eq!(text, "the output file cannot be written\n", "{program}");
+    }
 }
 
 #[test]
@@ -169,4 +257,52 @@ fn other_counts_of_arguments_write_nothing() {
         }
     }
     assert_eq!(fs::read_dir(&folder).expect("the folder").count(), 0);
+}
+
+/// Texts that are no decimal number of 64 bits. Some are 1 in 64 bits.
+const NO_NUMBERS: [&str; 16] = [
+    "",
+    "x",
+    "-1",
+    "+1",
+    "1x",
+    "x1",
+    "1.0",
+    " 1",
+    "1 ",
+    "0x1",
+    "1e0",
+    "1,1",
+    "18446744073709551616",
+    "18446744073709551617",
+    "184467440737095516161",
+    "340282366920938463463374607431768211457",
+];
+
+/// Another count of arguments, and a K that is no decimal number of 64 bits.
+#[test]
+fn planroll_tells_its_usage() {
+    let folder = empty_folder("usage");
+    fs::write(folder.join("plant.bin"), small::plant().encode()).expect("a plant file");
+    fs::write(folder.join("plan.bin"), small::plan().encode()).expect("a plan file");
+    fs::write(folder.join("rates.bin"), rate_list(&[100, 50])).expect("a list of rates");
+    let with_k = |k| vec!["plant.bin", "plan.bin", k, "rates.bin", "out.bin"];
+    let right = with_k("1");
+    let mut wrong: Vec<Vec<&str>> = NO_NUMBERS.into_iter().map(with_k).collect();
+    wrong.extend((0..right.len()).map(|count| right[..count].to_vec()));
+    wrong.push([&right[..], &["more"]].concat());
+    for arguments in wrong {
+        let output = run("planroll", &folder, &arguments);
+        assert!(output.stdout.is_empty(), "{arguments:?}");
+        let text = String::from_utf8_lossy(&output.stderr).into_owned();
+        let usage = "usage: planroll PLANT PLAN K RATES OUT";
+        assert!(text.starts_with(usage), "{arguments:?}: {text}");
+        assert!(!folder.join("out.bin").exists(), "{arguments:?}");
+    }
+    assert_eq!(fs::read_dir(&folder).expect("the folder").count(), 3);
+
+    // The greatest number of 64 bits is one.
+    let output = run("planroll", &folder, &with_k("18446744073709551615"));
+    assert_eq!(String::from_utf8_lossy(&output.stdout), "refused 61\n");
+    assert!(output.stderr.is_empty());
 }

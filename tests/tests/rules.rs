@@ -114,6 +114,7 @@ fn the_library_names_the_broken_rule() {
         assert_eq!(library::check(&plant, &plan), Err(number));
         assert_eq!(reference::check(&plant, &plan), Err(number));
         assert_eq!(library::slots(&plant, &plan, &mut [0; 1000]), Err(number));
+        assert_eq!(library::roll(&plant, &plan, 1, &[], &mut [0; 1000]), Err(number));
     }
 }
 

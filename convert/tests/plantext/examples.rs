@@ -1,9 +1,10 @@
 //! The example texts: the small plant is the sample files, the year's end has
-//! shut weeks, and the plants of source 004 say what its tables say.
+//! shut weeks and is taken over in its middle, and the plants of source 004 say
+//! what its tables say.
 
 use plantext::binary;
 use plantext::model::{Names, Plant, Slots, WeekBefore};
-use plantext::{plant_text, slots_text};
+use plantext::{plant_text, rates_text, slots_text};
 
 use crate::machine;
 use crate::texts::facts;
@@ -40,10 +41,16 @@ fn the_small_plant_has_b_mounted() {
 }
 
 #[test]
-fn the_document_shows_the_small_plant() {
+fn the_document_shows_the_examples() {
     let document = read_text("docs/TEXT.md");
     assert!(document.contains(&read_text("examples/small.plant.txt")));
     assert!(document.contains(&read_text("examples/small.slots.txt")));
+    assert!(document.contains(&read_text("examples/year-end-6-weeks.rates.txt")));
+    // Of the rolled plant its first lines, indented.
+    let rolled = read_text("examples/year-end-after-week-3.plant.txt");
+    let lines = rolled.lines().skip_while(|line| !line.starts_with("weeks")).take(14);
+    let indented = lines.map(|line| format!("    {line}").trim_end().to_string());
+    assert!(document.contains(&indented.collect::<Vec<_>>().join("\n")));
 }
 
 #[test]
@@ -61,6 +68,66 @@ fn the_year_ends_with_shut_weeks() {
     let back = binary::decode_slots(plant.sizes, &file).expect("a good file");
     let text = slots_text::write(plant.sizes, &names, &back);
     assert_eq!(facts(&text), facts(&read_text("examples/year-end-6-weeks.slots.txt")));
+}
+
+/// The text as `show` prints it stands below its comments.
+fn is_shown(text: &str, shown: &str) -> bool {
+    let head = text.strip_suffix(shown);
+    head.is_some_and(|head| head.lines().all(|line| line.is_empty() || line.starts_with('#')))
+}
+
+/// Request 2026-03: the line is retooled in week 3, which is shut.
+#[test]
+fn the_year_end_is_taken_over_after_week_3() {
+    let ((plant, names), slots) = (plant("year-end-6-weeks"), slots("year-end-6-weeks"));
+    let text = read("examples/year-end-6-weeks.rates.txt");
+    let rates = rates_text::read(&names, &text).expect("a good text");
+    assert_eq!(rates, [125, 80]);
+    assert_eq!(plant.rates, [100, 50]);
+
+    let (rolled, before) = machine::roll(&plant, &slots, 3, rates).expect("weeks that run");
+    assert_eq!(before, 11_990_000);
+    assert_eq!(rolled.week_before, Some(WeekBefore { mounted: Some(0), shut: true }));
+    assert_eq!(rolled.opening_backlog, [0, 0, 30_000, 0]);
+    let file = binary::encode_plant(&rolled);
+    let shown = plant_text::write(&binary::decode_plant(&file).expect("a good file"), &names);
+    assert!(is_shown(&read_text("examples/year-end-after-week-3.plant.txt"), &shown), "{shown}");
+    assert_eq!(self::plant("year-end-after-week-3"), (rolled.clone(), names));
+
+    // The old plan on the old rates, the old plan on the new ones, and a new plan.
+    let later = machine::later_slots(&slots, 3);
+    let unchanged = Plant { rates: plant.rates.clone(), ..rolled.clone() };
+    assert_eq!(machine::run(&unchanged, &later), Ok(9_460_000));
+    assert_eq!(machine::run(&plant, &slots), Ok(11_990_000 + 9_460_000));
+    assert_eq!(machine::run(&rolled, &later), Ok(8_560_000));
+    assert_eq!(machine::run(&rolled, &self::slots("year-end-after-week-3")), Ok(10_230_000));
+}
+
+/// Every example rolled on after each of its weeks, with its own rates: the text shows
+/// the rolled plant, and the rest of the plan runs on it to the same profit.
+#[test]
+fn every_example_may_be_rolled_on() {
+    for name in [
+        "small",
+        "ten-products-4-weeks",
+        "ten-products-6-weeks",
+        "ten-products-8-weeks",
+        "year-end-6-weeks",
+        "year-end-after-week-3",
+    ] {
+        let ((plant, names), slots) = (plant(name), slots(name));
+        let text = read(&format!("examples/{name}.plant.txt"));
+        for weeks in 1..plant.sizes.weeks {
+            let rates = rates_text::read(&names, &text).expect("a good text");
+            let (rolled, before) = machine::roll(&plant, &slots, weeks, rates).expect("a run");
+            let shown = plant_text::write(&rolled, &names);
+            let back = plant_text::read(shown.as_bytes());
+            assert_eq!(back, Ok((rolled.clone(), names.clone())), "{name} after {weeks}");
+            let later = machine::run(&rolled, &machine::later_slots(&slots, weeks));
+            let whole = machine::run(&plant, &slots);
+            assert_eq!(later.map(|later| before + later), whole, "{name} after {weeks}");
+        }
+    }
 }
 
 /// Thousandths of a cent of the examples to one of source 004's dollars.

@@ -1,8 +1,9 @@
 //! Every fault of a text is told with its line and what is expected.
 
-use plantext::{plant_text, slots_text};
+use plantext::model::Names;
+use plantext::{plant_text, rates_text, slots_text};
 
-use crate::texts::{changed, told, PLANT, SLOTS};
+use crate::texts::{changed, told, PLANT, RATES, SLOTS};
 
 /// What is told of the small plant's text after changes.
 fn plant_faults(changes: &[(usize, &str)]) -> Vec<String> {
@@ -13,6 +14,15 @@ fn plant_faults(changes: &[(usize, &str)]) -> Vec<String> {
 fn slots_faults(changes: &[(usize, &str)]) -> Vec<String> {
     let (plant, names) = plant_text::read(changed(&PLANT, &[]).as_bytes()).expect("a good text");
     told(slots_text::read(plant.sizes, &names, changed(&SLOTS, changes).as_bytes()))
+}
+
+/// What is told of new rates of the small plant after changes.
+fn rates_faults(changes: &[(usize, &str)]) -> Vec<String> {
+    told(rates_text::read(&small_names(), changed(&RATES, changes).as_bytes()))
+}
+
+fn small_names() -> Names {
+    Names { products: vec!["A".to_string(), "B".to_string()], customers: vec!["C1".to_string()] }
 }
 
 #[test]
@@ -35,6 +45,10 @@ fn unknown_words() {
     assert_eq!(
         slots_faults(&[(4, "sale C1 A 400000")]),
         ["4: unknown word \"sale\"; expected one of week, run, sell"]
+    );
+    assert_eq!(
+        rates_faults(&[(2, "rate B 80\nstorage A 0 5000")]),
+        ["3: unknown word \"storage\"; expected one of rate"]
     );
 }
 
@@ -67,6 +81,10 @@ fn unknown_names() {
     assert_eq!(
         slots_faults(&[(4, "sell C1 D 400000")]),
         ["4: unknown product \"D\"; expected one of A, B"]
+    );
+    assert_eq!(
+        rates_faults(&[(2, "rate B 80\nrate D 80")]),
+        ["3: unknown product \"D\"; expected one of A, B"]
     );
 }
 
@@ -117,6 +135,13 @@ fn words_too_few_or_too_many() {
         slots_faults(&[(9, "sell C1")]),
         ["9: the line ends after \"sell C1\"; expected: sell CUSTOMER PRODUCT NUMBER grams"]
     );
+    for (line, fault) in [
+        ("rate A", "the line ends after \"rate A\""),
+        ("rate A 125 grams per minute net", "\"net\" is too much"),
+    ] {
+        let form = "rate PRODUCT NUMBER grams per minute";
+        assert_eq!(rates_faults(&[(1, line)]), [format!("1: {fault}; expected: {form}")]);
+    }
 }
 
 #[test]
@@ -139,6 +164,14 @@ fn numbers_not_in_digits() {
         plant_faults(&[(19, "opening-inventory A 0.0005 kilograms")]),
         ["19: 0.0005 kilograms is not a whole number of grams; expected an opening inventory of 0 \
           to 4000000000 grams"]
+    );
+    let rate = "expected a rate of 1 to 100000 grams per minute";
+    assert_eq!(
+        rates_faults(&[(1, "rate A fast"), (2, "rate B 80.5")]),
+        [
+            format!("1: \"fast\" is not a number in digits; {rate}"),
+            format!("2: 80.5 grams per minute is not a whole number of grams per minute; {rate}"),
+        ]
     );
 }
 
@@ -196,6 +229,13 @@ fn wrong_units() {
         slots_faults(&[(4, "sell C1 A 5000 minutes")]),
         ["4: \"minutes\" is not the unit here; expected a sale in grams or kilograms"]
     );
+    for unit in ["minutes", "grams", "kilograms", "kilograms per minute", "percent"] {
+        let word = unit.split(' ').next().unwrap_or_default();
+        assert_eq!(
+            rates_faults(&[(1, &format!("rate A 125 {unit}"))]),
+            [format!("1: \"{word}\" is not the unit here; expected a rate in grams per minute")]
+        );
+    }
 }
 
 /// A line's number, the line around its number, and what the number may be.
@@ -247,6 +287,54 @@ fn numbers_out_of_limits() {
     try_limits(
         slots_faults,
         (4, "sell C1 A", "", 0, 4_294_967_295, "a sale of 0 to 4294967295 grams"),
+    );
+    try_limits(rates_faults, (2, "rate B", "", 1, 100_000, rate));
+}
+
+/// A plant of kind 4 may owe more at first (request 2026-03).
+#[test]
+fn the_opening_backlogs_limit_goes_by_the_kind() {
+    let limit = "an opening backlog of 0 to 1600000000 grams";
+    // The line that makes the kind may stand before or after.
+    for kind_4 in [
+        (19, "mounted B"),
+        (19, "week-before producing"),
+        (23, "week-before shut"),
+        (24, "mounted A"),
+    ] {
+        let faults =
+            |grams: &str| plant_faults(&[kind_4, (20, &format!("opening-backlog C1 A {grams}"))]);
+        for good in ["0", "100000001", "1600000000", "1600000 kilograms"] {
+            assert_eq!(faults(good), [] as [String; 0], "{kind_4:?} {good}");
+        }
+        for (grams, told) in [
+            ("1600000001", "1600000001 grams"),
+            ("1600000.001 kilograms", "1600000.001 kilograms"),
+            ("4294967296", "4294967296 grams"),
+        ] {
+            let told = format!("20: {told} is out of limits; expected {limit}");
+            assert_eq!(faults(grams), [told], "{kind_4:?}");
+        }
+    }
+    // A faulty line makes the kind too.
+    assert_eq!(
+        plant_faults(&[(19, "mounted D"), (20, "opening-backlog C1 A 1600000000")]),
+        ["19: unknown product \"D\"; expected one of A, B"]
+    );
+    assert_eq!(
+        plant_faults(&[(19, "week-before"), (20, "opening-backlog C1 A 1600000001")]),
+        [
+            "19: the line ends after \"week-before\"; expected: week-before shut or producing"
+                .to_string(),
+            format!("20: 1600000001 grams is out of limits; expected {limit}"),
+        ]
+    );
+    // A product of that name does not.
+    let text = changed(&PLANT, &[(20, "opening-backlog C1 A 100000001")]);
+    assert_eq!(
+        told(plant_text::read(text.replace('B', "mounted").as_bytes())),
+        ["20: 100000001 grams is out of limits; expected an opening backlog of 0 to 100000000 \
+          grams"]
     );
 }
 
@@ -399,6 +487,55 @@ fn missing_facts() {
     );
 }
 
+/// Told at the text's last line, which may be empty or a comment.
+#[test]
+fn missing_rates() {
+    let no_rate = |line: usize, name: &str| {
+        format!(
+            "{line}: product {name} has no rate; expected a line: rate {name} NUMBER grams per \
+             minute"
+        )
+    };
+    assert_eq!(rates_faults(&[(1, "")]), [no_rate(2, "A")]);
+    assert_eq!(rates_faults(&[(2, "\n# none of B")]), [no_rate(3, "B")]);
+    assert_eq!(rates_faults(&[(1, ""), (2, "")]), [no_rate(2, "A"), no_rate(2, "B")]);
+    assert_eq!(told(rates_text::read(&small_names(), b"")), [no_rate(1, "A"), no_rate(1, "B")]);
+    assert_eq!(
+        rates_faults(&[(1, "rate D 125")]),
+        ["1: unknown product \"D\"; expected one of A, B".to_string(), no_rate(2, "A")]
+    );
+}
+
+/// A text with a product line is a plant's, and told as one.
+#[test]
+fn rates_of_a_plants_text() {
+    let faults =
+        |changes| told(rates_text::read(&small_names(), changed(&PLANT, changes).as_bytes()));
+    assert_eq!(faults(&[]), [] as [String; 0]);
+    assert_eq!(
+        faults(&[(3, ""), (8, ""), (13, "storage A 0 2 tons")]),
+        [
+            "5: product B has no rate; expected a line: rate B NUMBER grams per minute",
+            "13: \"tons\" is not the unit here; expected a storage limit in grams or kilograms",
+            "24: shortest-run is missing; expected a line: shortest-run NUMBER minutes",
+        ]
+    );
+    // A good text of another plant.
+    let text = changed(&PLANT, &[]).replace('B', "D");
+    assert_eq!(
+        told(rates_text::read(&small_names(), text.as_bytes())),
+        [
+            "8: unknown product \"D\"; expected one of A, B",
+            "24: product B has no rate; expected a line: rate B NUMBER grams per minute",
+        ]
+    );
+    let names = Names { products: vec!["A".to_string()], ..small_names() };
+    assert_eq!(
+        told(rates_text::read(&names, changed(&PLANT, &[]).as_bytes())),
+        ["8: unknown product \"B\"; expected one of A"]
+    );
+}
+
 #[test]
 fn missing_weeks() {
     assert_eq!(
@@ -474,6 +611,10 @@ fn facts_given_twice() {
             "10: week 2 is missing; expected the plant's 2 weeks",
         ]
     );
+    assert_eq!(
+        rates_faults(&[(2, "rate B 80\nrate A 125")]),
+        ["3: rate A is given twice; expected once, as on line 1"]
+    );
 }
 
 #[test]
@@ -514,6 +655,17 @@ fn all_faults_are_told_at_once() {
             "6: \"3\" is not a week of the plant; expected 1 to 2",
             "9: unknown product \"D\"; expected one of A, B",
             "10: week 2 is missing; expected the plant's 2 weeks",
+        ]
+    );
+    assert_eq!(
+        rates_faults(&[(1, "rates A 125\nrate A 100001"), (2, "rate A 125\nrate D 80")]),
+        [
+            "1: unknown word \"rates\"; expected one of rate",
+            "2: 100001 grams per minute is out of limits; expected a rate of 1 to 100000 grams per \
+             minute",
+            "3: rate A is given twice; expected once, as on line 2",
+            "4: unknown product \"D\"; expected one of A, B",
+            "4: product B has no rate; expected a line: rate B NUMBER grams per minute",
         ]
     );
 }

@@ -3,9 +3,9 @@
 
 use std::fs;
 
-use plantext::binary::{self, Refusal};
-use plantext::model::{Plant, WeekBefore};
-use plantext::{plant_text, slots_text};
+use plantext::binary::{self, RatesRefusal, Refusal};
+use plantext::model::{Names, Plant, WeekBefore};
+use plantext::{plant_text, rates_text, slots_text};
 
 use crate::random::plant_of;
 use crate::{read, repository};
@@ -87,7 +87,7 @@ fn slot_files_have_their_numbers() {
 /// Row 5, number by number: the small plant with one number just out of range.
 #[test]
 fn every_number_of_a_plant_has_its_range() {
-    let changes: [fn(&mut Plant); 19] = [
+    let changes: [fn(&mut Plant); 18] = [
         |plant| plant.rates[1] = 0,
         |plant| plant.rates[1] = 100_001,
         |plant| plant.changeover_minutes[1] = 10_081,
@@ -101,7 +101,6 @@ fn every_number_of_a_plant_has_its_range() {
         |plant| plant.storage[1].least = 2_000_001,
         |plant| plant.storage[1].greatest = 4_000_000_001,
         |plant| plant.opening_inventory[1] = 4_000_000_001,
-        |plant| plant.opening_backlog[1] = 100_000_001,
         |plant| plant.shortest_run = 0,
         |plant| plant.shortest_run = 10_081,
         |plant| plant.week_minutes = 0,
@@ -113,6 +112,51 @@ fn every_number_of_a_plant_has_its_range() {
             change(&mut plant);
             let file = binary::encode_plant(&plant);
             assert_eq!(binary::decode_plant(&file), Err(Refusal(5)), "change {place}");
+        }
+    }
+}
+
+/// Row 5 of the opening backlog, which goes by the kind (request 2026-03).
+#[test]
+fn the_opening_backlog_has_its_range_by_the_kind() {
+    for (plant, greatest) in
+        [(small_plant(), 100_000_000), (in_kind_4(small_plant()), 1_600_000_000)]
+    {
+        for place in 0..plant.opening_backlog.len() {
+            for (grams, good) in
+                [(0, true), (greatest, true), (greatest + 1, false), (u32::MAX, false)]
+            {
+                let mut plant = plant.clone();
+                plant.opening_backlog[place] = grams;
+                let decoded = binary::decode_plant(&binary::encode_plant(&plant));
+                assert_eq!(decoded, if good { Ok(plant) } else { Err(Refusal(5)) }, "{grams}");
+            }
+        }
+    }
+}
+
+/// A list of another length is a 4, whatever its rates; a rate out of range a 5.
+#[test]
+fn lists_of_rates_have_their_numbers() {
+    for products in 1..=16 {
+        let sizes = plant_of(products).sizes;
+        for rate in [0, 1, 100_000] {
+            let stretched = binary::encode_rates(&[rate; 17]);
+            for length in (0..=stretched.len()).filter(|&length| length != 4 * products) {
+                let decoded = binary::decode_rates(sizes, &stretched[..length]);
+                assert_eq!(decoded, Err(RatesRefusal::Length), "{products} products: {length}");
+            }
+        }
+        for place in 0..products {
+            for (rate, good) in
+                [(0, false), (1, true), (100_000, true), (100_001, false), (u32::MAX, false)]
+            {
+                let mut rates = vec![7; products];
+                rates[place] = rate;
+                let decoded = binary::decode_rates(sizes, &binary::encode_rates(&rates));
+                let expected = if good { Ok(rates) } else { Err(RatesRefusal::Range) };
+                assert_eq!(decoded, expected, "{products} products: {rate} at {place}");
+            }
         }
     }
 }
@@ -219,13 +263,24 @@ fn files_are_told_from_texts() {
 }
 
 #[test]
+fn plant_files_are_told_by_their_kind() {
+    for kind in 0..=255 {
+        assert_eq!(binary::is_plant(&[kind]), kind == 1 || kind == 4, "{kind}");
+    }
+    assert!(!binary::is_plant(&[]));
+}
+
+#[test]
 fn a_file_is_not_a_text() {
     let told = "the line is not text; expected UTF-8 without control characters";
     let faults = plant_text::read(&read_sample("plant.bin")).expect_err("no text");
     assert_eq!((faults[0].line, faults[0].message.as_str()), (1, told));
     let plant = small_plant();
-    let names = plantext::model::Names::numbered(plant.sizes);
+    let names = Names::numbered(plant.sizes);
     let faults =
         slots_text::read(plant.sizes, &names, b"week 1\nrun P1 \xff\n").expect_err("no text");
     assert_eq!((faults[0].line, faults[0].message.as_str()), (2, told));
+    let list = binary::encode_rates(&plant.rates);
+    let faults = rates_text::read(&names, &list).expect_err("no text");
+    assert_eq!((faults[0].line, faults[0].message.as_str()), (1, told));
 }

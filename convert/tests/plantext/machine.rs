@@ -1,15 +1,68 @@
-//! A small plant machine, to see that the examples run.
+//! A small plant machine, to see that the examples run and what a plant is rolled to.
 
-use plantext::model::{Plant, Slots};
+use plantext::model::{Plant, Sizes, Slots, WeekBefore};
+
+/// What a run has after some weeks.
+struct State {
+    mounted: Option<usize>,
+    inventory: Vec<i64>,
+    backlog: Vec<i64>,
+    profit: i64,
+}
 
 /// Runs slots: the profit in thousandths of a cent, or the number of the stop.
 pub fn run(plant: &Plant, slots: &Slots) -> Result<i64, u8> {
+    run_weeks(plant, slots, plant.sizes.weeks).map(|state| state.profit)
+}
+
+/// The plant of the weeks after the first `weeks`, with new rates, and the profit of
+/// the first ones (request 2026-03).
+pub fn roll(
+    plant: &Plant,
+    slots: &Slots,
+    weeks: usize,
+    rates: Vec<u32>,
+) -> Result<(Plant, i64), u8> {
+    let state = run_weeks(plant, slots, weeks)?;
+    let four_bytes = |numbers: Vec<i64>| -> Vec<u32> {
+        numbers.into_iter().map(|number| u32::try_from(number).expect("four bytes")).collect()
+    };
+    let week_before = WeekBefore {
+        mounted: state.mounted.map(|product| u8::try_from(product).expect("at most 16 products")),
+        shut: slots.weeks[weeks - 1].is_empty(),
+    };
+    let rolled = Plant {
+        sizes: Sizes { weeks: plant.sizes.weeks - weeks, ..plant.sizes },
+        rates,
+        demand: after(&plant.demand, plant.sizes.weeks, weeks),
+        opening_inventory: four_bytes(state.inventory),
+        opening_backlog: four_bytes(state.backlog),
+        week_before: Some(week_before),
+        ..plant.clone()
+    };
+    Ok((rolled, state.profit))
+}
+
+/// The slots and sales of the weeks after the first `weeks`.
+pub fn later_slots(slots: &Slots, weeks: usize) -> Slots {
+    Slots {
+        weeks: slots.weeks[weeks..].to_vec(),
+        sales: after(&slots.sales, slots.weeks.len(), weeks),
+    }
+}
+
+/// A table of numbers by week without its first weeks.
+fn after(table: &[u32], all: usize, weeks: usize) -> Vec<u32> {
+    table.chunks(all).flat_map(|row| &row[weeks..]).copied().collect()
+}
+
+fn run_weeks(plant: &Plant, slots: &Slots, weeks: usize) -> Result<State, u8> {
     let sizes = plant.sizes;
     let mut mounted = plant.week_before.and_then(|before| before.mounted).map(usize::from);
     let mut inventory: Vec<i64> = plant.opening_inventory.iter().copied().map(i64::from).collect();
     let mut backlog: Vec<i64> = plant.opening_backlog.iter().copied().map(i64::from).collect();
     let mut profit = 0;
-    for (week, runs) in slots.weeks.iter().enumerate() {
+    for (week, runs) in slots.weeks[..weeks].iter().enumerate() {
         let mut clock = 0;
         let mut ran = Vec::new();
         for run in runs {
@@ -51,7 +104,7 @@ pub fn run(plant: &Plant, slots: &Slots) -> Result<i64, u8> {
             profit -= i64::from(plant.inventory_costs[product]) * inventory;
         }
     }
-    Ok(profit)
+    Ok(State { mounted, inventory, backlog, profit })
 }
 
 fn stop_if(condition: bool, number: u8) -> Result<(), u8> {

@@ -63,6 +63,7 @@ impl Random {
             }
         }
         let week_minutes = self.minutes(limits::WEEK_MINUTES);
+        let week_before = self.week_before(sizes.products);
         Plant {
             sizes,
             rates: self.many(sizes.products, limits::RATE),
@@ -79,10 +80,10 @@ impl Random {
                 })
                 .collect(),
             opening_inventory: self.many(sizes.products, limits::OPENING_INVENTORY),
-            opening_backlog: self.many(pairs, limits::OPENING_BACKLOG),
+            opening_backlog: self.many(pairs, limits::opening_backlog(week_before.is_some())),
             shortest_run: self.minutes(1..=week_minutes.into()),
             week_minutes,
-            week_before: self.week_before(sizes.products),
+            week_before,
         }
     }
 
@@ -91,6 +92,10 @@ impl Random {
         let values = week_befores(products);
         let place = self.size(0..=values.len() as u64);
         values.get(place).copied()
+    }
+
+    pub fn rates(&mut self, products: usize) -> Vec<u32> {
+        self.many(products, limits::RATE)
     }
 
     /// Slots that have the form, though hardly any run without a stop.
@@ -110,10 +115,11 @@ impl Random {
     }
 }
 
-/// A plant of so many products.
+/// A plant of so many products, of kind 1.
 pub fn plant_of(products: usize) -> Plant {
-    let mut plants = (0..).map(|seed| Random::new(seed).plant());
-    plants.find(|plant| plant.sizes.products == products).expect("one of the seeds")
+    let plants = (0..).map(|seed| Random::new(seed).plant());
+    let mut of_kind_1 = plants.filter(|plant| plant.week_before.is_none());
+    of_kind_1.find(|plant| plant.sizes.products == products).expect("one of the seeds")
 }
 
 /// All values of section 12 in a plant of so many products.

@@ -1,7 +1,7 @@
 //! From numbers to text and back, and to bytes and back.
 
 use plantext::model::{Names, Plant, Sizes, Slot, Slots, WeekBefore};
-use plantext::{binary, plant_text, slots_text};
+use plantext::{binary, plant_text, rates_text, slots_text};
 
 use crate::random::{plant_of, week_befores, Random};
 use crate::read;
@@ -28,7 +28,7 @@ fn plants_come_back_from_text_and_bytes() {
 #[test]
 fn both_kinds_come_back_from_text_and_bytes() {
     for products in 1..=16 {
-        let mut plant = Plant { week_before: None, ..plant_of(products) };
+        let mut plant = plant_of(products);
         let kind_1 = through_text_and_bytes(&plant);
         assert_eq!(kind_1[..2], [1, 11]);
         for week_before in week_befores(products) {
@@ -56,6 +56,74 @@ fn slots_come_back_from_text_and_bytes() {
         let file = binary::encode_slots(&slots);
         assert_eq!(binary::decode_slots(sizes, &file), Ok(slots), "seed {seed}");
     }
+}
+
+/// A plant of kind 4 may owe more (request 2026-03).
+#[test]
+fn the_greatest_opening_backlog_comes_back() {
+    for (week_before, greatest) in [
+        (None, 100_000_000),
+        (Some(WeekBefore { mounted: None, shut: false }), 1_600_000_000),
+        (Some(WeekBefore { mounted: Some(15), shut: true }), 1_600_000_000),
+    ] {
+        let plant = plant_of(16);
+        let opening_backlog = vec![greatest; plant.opening_backlog.len()];
+        through_text_and_bytes(&Plant { week_before, opening_backlog, ..plant });
+    }
+}
+
+#[test]
+fn rates_come_back_from_text_and_bytes() {
+    for products in 1..=16 {
+        let sizes = plant_of(products).sizes;
+        let names = Names::numbered(sizes);
+        for seed in 0..50 {
+            let rates = Random::new(seed).rates(products);
+            let text = rates_text::write(&names, &rates);
+            assert_eq!(rates_text::read(&names, text.as_bytes()), Ok(rates.clone()), "seed {seed}");
+            let file = binary::encode_rates(&rates);
+            assert_eq!(file.len(), 4 * products);
+            assert_eq!(binary::decode_rates(sizes, &file), Ok(rates), "seed {seed}");
+        }
+    }
+}
+
+/// A list of rates is as section 2 of the plant file.
+#[test]
+fn a_plants_text_gives_its_own_rates() {
+    for seed in 0..200 {
+        let plant = Random::new(seed).plant();
+        let names = Names::numbered(plant.sizes);
+        let text = plant_text::write(&plant, &names);
+        let rates = rates_text::read(&names, text.as_bytes()).expect("a good text");
+        assert_eq!(rates, plant.rates, "seed {seed}");
+        let section_2 = if plant.week_before.is_some() { 113 } else { 104 };
+        let list = binary::encode_rates(&rates);
+        assert!(binary::encode_plant(&plant)[section_2..].starts_with(&list), "seed {seed}");
+    }
+}
+
+/// The products have the plant's order, whatever that of their lines.
+#[test]
+fn rates_may_be_written() {
+    let (_, names) =
+        plant_text::read(texts::changed(&texts::PLANT, &[]).as_bytes()).expect("a good text");
+    for text in [
+        "rate A 125\nrate B 80\n",
+        "rate B 80 grams per minute\nrate A 125",
+        "\u{feff}# new\r\n\r\n\trate  B 80.0 # slow\r\nrate A 125 gram per minute\r\n",
+    ] {
+        assert_eq!(rates_text::read(&names, text.as_bytes()), Ok(vec![125, 80]), "{text}");
+    }
+    assert_eq!(binary::encode_rates(&[125, 100_000]), [125, 0, 0, 0, 0xa0, 0x86, 1, 0]);
+    assert_eq!(
+        rates_text::write(&names, &[1, 100_000]),
+        "rate A 1 gram per minute\nrate B 100000 grams per minute\n"
+    );
+    // Of a plant's text only the rates count, and its products may be in another order.
+    let changes = [(1, "weeks 26"), (4, "product B"), (5, "product A"), (7, "rate A 125")];
+    let text = texts::changed(&texts::PLANT, &changes);
+    assert_eq!(rates_text::read(&names, text.as_bytes()), Ok(vec![125, 50]));
 }
 
 /// The text of weeks that are shut or run A. A shut week is its week line alone.

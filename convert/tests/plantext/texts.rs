@@ -1,4 +1,4 @@
-//! The small plant and its slots as texts, each fact on a line of its own.
+//! The small plant, its slots and new rates as texts, each fact on a line of its own.
 
 use plantext::lines::Fault;
 
@@ -41,6 +41,8 @@ pub const SLOTS: [&str; 10] = [
     "sell C1 A 300000",
     "sell C1 B 150000",
 ];
+
+pub const RATES: [&str; 2] = ["rate A 125", "rate B 80"];
 
 /// The text with other words on some lines, which count from 1.
 pub fn changed(lines: &[&str], changes: &[(usize, &str)]) -> String {

@@ -1,17 +1,18 @@
 -- A file written section by section: the contents, then each body where the one before ends, give the file and leave what follows it.
 -- Assumes nothing.
-use Prim.Native.Nat.{ℕ, zero, _+_}
+use Prim.Native.Nat.{ℕ, _+_, _-_, _≤_}
 use mathlib.Core.Path.{_≡_, refl, sym, ap, _∙_}
-use mathlib.Core.List.{List, [], _++_, map, append-assoc}
+use mathlib.Core.List.{List, [], _++_, map, append-assoc, append-nil}
 use native.Mathlib.Omega.{arith}
 use native.Mathlib.Numerals.{add-one}
 use native.Mathlib.Nat.{zero-add}
 use lib.ListN.{length, getD, length-append}
+use borrow.Rule.Slice.PartMut.{midOf, putMid}
 use Rattle.mathematics.specs.Below.{sumBelow, joinBelow}
 use Rattle.mathematics.proofs.Below.{sum-ext}
 use Rattle.mathematics.proofs.Join.{join-length}
 use Rattle.numbers.specs.Number.{store}
-use Rattle.numbers.proofs.Store.{store-store}
+use Rattle.numbers.proofs.Store.{store-store, part-store}
 use Rattle.contents.specs.File.{start, contentsBytes, fileOf}
 use Rattle.contents.proofs.FileLayout.{body-length}
 use Rattle.contents.proofs.FileWritten.{listed, contents-length}
@@ -49,3 +50,17 @@ module _ (kind first : ℕ) (bodies : List (List ℕ)) where
   pub all-stored : firstBodies (length bodies) ≡ fileOf kind first bodies
   unfolding firstBodies fileOf
   all-stored = refl
+
+  -- ---- as a writer does it, which knows the lengths
+  module _ (lengths : List ℕ) (e : map length bodies ≡ lengths) where
+    pub contents-first : contentsBytes kind first lengths ≡ firstBodies 0
+    unfolding firstBodies
+    contents-first = ap (contentsBytes kind first) (sym e) ∙ sym (append-nil (contentsBytes kind first (map length bodies)))
+
+    -- the next body, stored at the start of the stretch that is lent
+    pub stretch-stored : (s out : List ℕ) (place from : ℕ) → out ≡ store s 0 (firstBodies place) → from ≡ start lengths place → from ≤ length out
+        → putMid from (length out - from) out (store (midOf from (length out - from) out) 0 (getD bodies place []))
+        ≡ store s 0 (firstBodies (place + 1))
+    stretch-stored s out place from o d l =
+        let there = d ∙ ap (λ (n : List ℕ). start n place) (sym e) in
+        part-store out from (getD bodies place []) l ∙ ((λ u. store (o u) (there u) (getD bodies place [])) ∙ body-stored s place)

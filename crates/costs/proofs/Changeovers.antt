@@ -5,14 +5,14 @@ use mathlib.Core.Path.{_≡_, refl}
 use mathlib.Core.Logic.{_⊎_, inl, inr}
 use mathlib.Core.Bool.{Bool, true, false, cond}
 use lib.Dec.{eqb}
-use borrow.Author.Tests.{eqb-false}
+use borrow.Author.Tests.{eqb-false, ne-eqb}
 use native.Mathlib.Omega.{arith}
 use Rattle.costs.specs.declared.Mounted.{Mounted}
 use Rattle.costs.specs.declared.Mounted.the-variants.{Nothing, Product}
-use Rattle.sections.specs.Limits.{nothingMounted}
+use Rattle.sections.specs.Limits.{mostProducts, nothingMounted}
 use Rattle.plant_file.specs.Plant.{LinePlant}
 use Rattle.plant_file.specs.Ranges.{LineRanges}
-use Rattle.costs.specs.Mounted.{mountedBelow, openingMounted}
+use Rattle.costs.specs.Mounted.{mountedBelow, openingMounted, mountedNumber}
 use Rattle.costs.specs.Changeover.{changeoverBetween, changeoverTo}
 
 -- it takes at most what the table's entries do
@@ -40,3 +40,15 @@ opening-below N l r = go (eqb (l .mounted) nothingMounted) refl (r .mounted-know
     go true e h = tt
     go false e (inl h) = h
     go false e (inr h) = absurd (eqb-false (l .mounted) nothingMounted e h)
+
+-- what is mounted at first is read back from its number: no product has the number for none
+pub opening-number : (N : ℕ) → N ≤ mostProducts → (l : LinePlant) (m : Mounted) → mountedBelow N m → l .mounted ≡ mountedNumber m
+    → openingMounted l ≡ m
+unfolding openingMounted
+opening-number N few l Nothing h e = rw e
+opening-number N few l (Product p) h e = rw (e, ne-eqb p nothingMounted (omega arith))
+
+-- and that number is a product's, or that for none
+pub number-known : (N : ℕ) (m : Mounted) → mountedBelow N m → (mountedNumber m < N) ⊎ (mountedNumber m ≡ nothingMounted)
+number-known N Nothing h = inr refl
+number-known N (Product p) h = inl h

@@ -21,3 +21,8 @@ mountedBelow N (Product q) = q < N
 -- before the first week: "the mounted product or 255 for none" (request 2026-02)
 unfoldable pub openingMounted : LinePlant → Mounted
 openingMounted l = cond (eqb (l .mounted) nothingMounted) Nothing (Product (l .mounted))
+
+-- the same the other way: what section 12 has for what is mounted
+abbrev pub mountedNumber : Mounted → ℕ
+mountedNumber Nothing = nothingMounted
+mountedNumber (Product p) = p

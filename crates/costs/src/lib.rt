@@ -4,10 +4,11 @@ ghost use mathlib.Core.Path.{_≡_};
 ghost use Rattle.sections.specs.declared.Form.the-variants.{Good};
 ghost use Rattle.plant_file.specs.Plant.{plantOf};
 ghost use Rattle.plant_file.specs.Form.{plantForm};
-ghost use Rattle.costs.specs.Mounted.{mountedBelow, isMounted, openingMounted};
+ghost use Rattle.costs.specs.Mounted.{mountedBelow, isMounted, openingMounted, mountedNumber};
 ghost use Rattle.costs.specs.declared.Mounted.the-variants.{Product};
 ghost use Rattle.costs.specs.Changeover.{LookedUp};
 use numbers::as_usize;
+use numbers::wide;
 use plant_file::NOTHING_MOUNTED;
 use plant_file::changeover_cents;
 use plant_file::changeover_minutes;
@@ -34,6 +35,16 @@ pub fn opening_mounted(plant: &[u8], f: Shape) -> Mounted
         return Mounted::Nothing;
     }
     Mounted::Product(product as u8)
+}
+
+// What section 12 has for what is mounted.
+pub fn mounted_number(mounted: Mounted) -> u64
+    ensures { λ r. ⌜ r ≡ mountedNumber mounted ⌝ }
+{
+    match mounted {
+        Mounted::Nothing => NOTHING_MOUNTED,
+        Mounted::Product(p) => wide(p),
+    }
 }
 
 // 1 where a product is mounted, else 0.

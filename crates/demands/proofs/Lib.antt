@@ -1,8 +1,10 @@
 pub mod SameRuns
 pub mod SameVerdicts
 pub mod SamePlants
+pub mod RolledRuns
 pub mod SameAnswersHold
 pub mod ThirdDemandHolds
 pub mod OtherDemandsHold
 pub mod ShutWeeksHold
 pub mod OpeningMountedHolds
+pub mod RollOnHolds

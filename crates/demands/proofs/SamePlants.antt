@@ -12,7 +12,7 @@ use Rattle.mathematics.proofs.Tables.{all-ext}
 use Rattle.mathematics.proofs.Join.{join-ext}
 use Rattle.sections.specs.declared.Shape.{Shape}
 use Rattle.sections.specs.declared.Form.the-variants.{Good}
-use Rattle.plant_file.proofs.SamePlantFiles.{SameNumbers}
+use Rattle.plant_file.specs.Same.{SamePlant}
 use Rattle.plant_file.specs.Plant.{Plant, plantOf}
 use Rattle.plant_file.specs.Form.{plantForm}
 use Rattle.plant_file.proofs.PlantInRange.{plant-ranges}
@@ -55,13 +55,14 @@ then-alike {r} {q} g h a b =
     }
 
 -- ---- a changeover, in two tables that are the same for N products
-to-same : {N : ℕ} {g h : ℕ → ℕ → ℕ} → ((i j : ℕ) → i < N → j < N → g i j ≡ h i j) → (m : Mounted) (p : ℕ) → mountedBelow N m → p < N
+pub to-same : {N : ℕ} {g h : ℕ → ℕ → ℕ} → ((i j : ℕ) → i < N → j < N → g i j ≡ h i j) → (m : Mounted) (p : ℕ) → mountedBelow N m → p < N
     → changeoverTo g m p ≡ changeoverTo h m p
 unfolding changeoverBetween
 to-same e Nothing p m k = refl
 to-same e (Product q) p m k = e q p m k
 
-module _ (f : Shape) (a b : List ℕ) (same : SameNumbers f a b) (good : plantForm a ≡ Good f) (S : Slots) (formed : Formed (plantOf f a) S) where
+module _ (f : Shape) (a b : List ℕ) (same : SamePlant (plantOf f a) (plantOf f b)) (good : plantForm a ≡ Good f)
+    (S : Slots) (formed : Formed (plantOf f a) S) where
   abbrev P : Plant
   P = plantOf f a
 

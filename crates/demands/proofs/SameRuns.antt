@@ -8,7 +8,7 @@ use lib.IntN.{pos, _+ℤ_, _-ℤ_}
 use Rattle.mathematics.specs.Order.{assignedIn, firstIn, lastIn, changeoverIn, positionIn}
 use Rattle.mathematics.proofs.Below.{sum-ext}
 use Rattle.mathematics.proofs.Tables.{all-ext}
-use Rattle.plant_file.specs.Plant.{Plant}
+use Rattle.plant_file.specs.Plant.{Plant, shapeOfPlant}
 use Rattle.plan_file.specs.Plan.{Same2, SamePlan}
 use Rattle.slot_file.specs.Slots.{Slot, orderOfSlots, Slots, SameSlots}
 use Rattle.costs.specs.Mounted.{isMounted}
@@ -20,7 +20,6 @@ use Rattle.machine.specs.Machine.{booked, weekDone, weekStops, weekEnd}
 use Rattle.machine.specs.Run.{runSlots, runWeek, runWeeks, run, ranWeek, slotsDone, after, opening}
 use Rattle.machine.proofs.Flat.{row-ext}
 use Rattle.model.specs.RunTables.{minutesOf, lineTables, runTables}
-use Rattle.model.specs.Match.{shapeOfPlant}
 use Rattle.model.proofs.Grids.{grid-ext}
 
 pub rows-ext : (m n : ℕ) (f g : ℕ → ℕ → ℕ → ℕ) (l : List ℕ) → ((c i v : ℕ) → c < m → i < n → f c i v ≡ g c i v)

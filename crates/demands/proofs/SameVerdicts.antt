@@ -10,7 +10,7 @@ use Rattle.mathematics.proofs.Below.{sum-ext}
 use Rattle.mathematics.proofs.Tables.{all-ext}
 use Rattle.sections.specs.declared.Shape.{Shape}
 use Rattle.sections.specs.Limits.{nothingMounted}
-use Rattle.plant_file.proofs.SamePlantFiles.{SameNumbers}
+use Rattle.plant_file.specs.Same.{SamePlant}
 use Rattle.plant_file.specs.Plant.{Plant, plantOf}
 use Rattle.plan_file.specs.Plan.{Plan}
 use Rattle.costs.specs.declared.Mounted.the-variants.{Nothing, Product}
@@ -23,7 +23,7 @@ use Rattle.rules.specs.Rules.{rule33, rule35, rule36, rule37, rule38, rule39, r
 use Rattle.rules.specs.Verdict.{trials, tried, profitTried, verdictOf}
 use Rattle.model.proofs.Grids.{grid-ext}
 
-module _ (f : Shape) (a b : List ℕ) (same : SameNumbers f a b) (x : Plan) where
+module _ (f : Shape) (a b : List ℕ) (same : SamePlant (plantOf f a) (plantOf f b)) (x : Plan) where
   abbrev P : Plant
   P = plantOf f a
 
@@ -34,17 +34,17 @@ module _ (f : Shape) (a b : List ℕ) (same : SameNumbers f a b) (x : Plan) wher
   N = f .products
 
   -- ---- what stands before a week: the opening, or the plan's own tables
-  mounted-same : (n : ℕ) → mountedAfter (P .line) (x .line) n ≡ mountedAfter (Q .line) (x .line) n
+  pub mounted-same : (n : ℕ) → mountedAfter (P .line) (x .line) n ≡ mountedAfter (Q .line) (x .line) n
   unfolding mountedAfter openingMounted
   mounted-same zero = λ u i. isMounted (cond (eqb (same .mounted u) nothingMounted) Nothing (Product (same .mounted u))) i
   mounted-same (suc w) = refl
 
-  backlog-before-same : (w c i : ℕ) → c < f .customers → i < N → backlogBefore P x w c i ≡ backlogBefore Q x w c i
+  pub backlog-before-same : (w c i : ℕ) → c < f .customers → i < N → backlogBefore P x w c i ≡ backlogBefore Q x w c i
   unfolding backlogBefore
   backlog-before-same zero c i j k = same .openingBacklog c i j k
   backlog-before-same (suc w) c i j k = refl
 
-  inventory-before-same : (w i : ℕ) → i < N → inventoryBefore P x w i ≡ inventoryBefore Q x w i
+  pub inventory-before-same : (w i : ℕ) → i < N → inventoryBefore P x w i ≡ inventoryBefore Q x w i
   unfolding inventoryBefore
   inventory-before-same zero i k = same .openingInventory i k
   inventory-before-same (suc w) i k = refl

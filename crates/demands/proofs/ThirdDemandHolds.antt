@@ -6,7 +6,7 @@ use native.Mathlib.Omega.{arith}
 use Rattle.numbers.specs.Number.{Bytes}
 use Rattle.sections.specs.declared.Shape.{Shape}
 use Rattle.sections.specs.declared.Form.the-variants.{Good}
-use Rattle.plant_file.specs.Plant.{Plant, plantOf}
+use Rattle.plant_file.specs.Plant.{Plant, shapeOfPlant, plantOf}
 use Rattle.plant_file.specs.Form.{plantForm}
 use Rattle.plant_file.specs.Ranges.{PlantRanges}
 use Rattle.plant_file.proofs.PlantInRange.{plant-ranges}
@@ -24,7 +24,7 @@ use Rattle.units.specs.declared.Profit.{Profit}
 use Rattle.machine.specs.declared.State.{State}
 use Rattle.machine.specs.Run.{after}
 use Rattle.model.specs.RunTables.{runTables}
-use Rattle.model.specs.Match.{shapeOfPlant, Gives}
+use Rattle.model.specs.Match.{Gives}
 use Rattle.model.proofs.Agreement.{running-passes, one-slots, shown-slots}
 use Rattle.model.proofs.Widths.{run-fits, shown-fit}
 use Rattle.passed_plan.specs.declared.Pass.{Pass}

@@ -1,4 +1,5 @@
--- THE FIRST DEMAND, over the calls' own definitions: which number each call refuses with, and what a refusal leaves. Assumes nothing.
+-- THE FIRST DEMAND, over the calls' own definitions: which number each call of the three levels refuses with, and what a refusal of any call leaves.
+-- Assumes nothing.
 use Prim.Native.Nat.{ℕ, _≤_, _<_}
 use mathlib.Core.Path.{_≡_}
 use mathlib.Core.Logic.{_↔_}

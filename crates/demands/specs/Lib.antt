@@ -3,3 +3,4 @@ pub mod SecondDemand
 pub mod ThirdDemand
 pub mod ShutWeeks
 pub mod OpeningMounted
+pub mod RollOn

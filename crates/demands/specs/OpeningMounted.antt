@@ -26,16 +26,17 @@ use Rattle.model.specs.SmallPlant.{ran, factOf, mountedCase}
 use Rattle.units.specs.declared.Profit.{Profit}
 use Rattle.calls.specs.declared.Check.the-variants as check
 use Rattle.calls.specs.Check.{checkOf}
-use Rattle.calls.specs.Answer.{slotAnswer, planAnswer}
+use Rattle.calls.specs.Answer.{slotAnswer, planAnswer, rollAnswer}
 use Rattle.report.specs.Report.{reportText}
 use Rattle.demands.specs.ThirdDemand.{ThirdDemand}
 use Rattle.demands.specs.ShutWeeks.{IsShut}
 
--- equal verdicts, runs, tables and reports: each call and the report answer alike
+-- equal verdicts, runs, tables and reports: checking, slot return, plan writing, rolling on and the report answer alike
 pub record SameAnswers (a b : List ℕ) : Type 0 where
   pub check : (plan : List ℕ) → checkOf a plan ≡ checkOf b plan
   pub slots : (plan : List ℕ) → slotAnswer a plan ≡ slotAnswer b plan
   pub plan : (slots : List ℕ) → planAnswer a slots ≡ planAnswer b slots
+  pub roll : (plan : List ℕ) (k : ℕ) (rates : List ℕ) → rollAnswer a plan k rates ≡ rollAnswer b plan k rates
   pub report : (plan : List ℕ) → Bytes plan → reportText a plan ≡ reportText b plan
 
 -- a plan file that passes

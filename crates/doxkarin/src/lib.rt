@@ -2,12 +2,13 @@
 // include/doxkarin.h declares them.
 ghost use mathlib.Core.Path.{_≡_};
 ghost use Rattle.calls.specs.Check.{checkOf};
-ghost use Rattle.calls.specs.Answer.{slotAnswer, planAnswer, writtenIn, outputAfter};
+ghost use Rattle.calls.specs.Answer.{slotAnswer, planAnswer, rollAnswer, writtenIn, outputAfter};
 ghost use Rattle.doxkarin.specs.Codes.{checkCode, profitAfter, writtenCode, lengthAfter};
 use calls::Check;
 use calls::Written;
 use calls::check_plan;
 use plan_writing::plan_writing;
+use rolling::roll;
 use slot_return::slot_return;
 
 // Level A: the exact profit of a plan that passes, in thousandths of a cent.
@@ -60,5 +61,27 @@ pub extern "C" fn doxkarin_plan(plant: &[u8], slots: &[u8], out: &mut [u8], leng
     ensures output { λ _. ⌜ now (out .exit) ≡ outputAfter (planAnswer (now (plant .entry)) (now (slots .entry))) (now (out .entry)) ⌝ }
 {
     let written = plan_writing(plant, slots, out);
+    answer(written, length)
+}
+
+// Rolling on: the plant file of the weeks after the first k of a plan that passes, with new rates, at the start of the output, and its length.
+#[no_mangle]
+pub extern "C" fn doxkarin_roll(
+    plant: &[u8],
+    plan: &[u8],
+    k: u64,
+    rates: &[u8],
+    out: &mut [u8],
+    length: &mut u64,
+) -> u32
+    ensures code { λ r. ⌜ r
+        ≡ writtenCode (writtenIn (rollAnswer (now (plant .entry)) (now (plan .entry)) k (now (rates .entry))) (now (out .entry))) ⌝ }
+    ensures size { λ _. ⌜ now (length .exit)
+        ≡ lengthAfter (writtenIn (rollAnswer (now (plant .entry)) (now (plan .entry)) k (now (rates .entry))) (now (out .entry)))
+        (now (length .entry)) ⌝ }
+    ensures output { λ _. ⌜ now (out .exit)
+        ≡ outputAfter (rollAnswer (now (plant .entry)) (now (plan .entry)) k (now (rates .entry))) (now (out .entry)) ⌝ }
+{
+    let written = roll(plant, plan, k, rates, out);
     answer(written, length)
 }

@@ -1,10 +1,12 @@
-// Files as the programs read and write them.
+// Files as the programs read and write them, and numbers as their arguments name them.
 use calls::Written;
 use libc::STDERR_FILENO;
 use libc::STDOUT_FILENO;
 ghost use lib.ListN.{length};
+ghost use mathlib.Core.Path.{_≡_};
 ghost use Rattle.io.specs.Counts.{Counts};
 ghost use Rattle.files.specs.Within.{Within};
+ghost use Rattle.files.specs.Numerals.{withDigit, numeralOf};
 
 // Puts the start of a file at the start of buf, and answers how many bytes. One that cannot be read counts as empty.
 pub fn read_file(path: &[u8], buf: &mut [u8]) -> usize
@@ -41,6 +43,55 @@ pub fn write_named(i: usize, bytes: &[u8]) -> bool {
         return false;
     }
     all
+}
+
+// What a text names: a number of 64 bits, or something else.
+pub enum Numeral {
+    Number(u64),
+    Other,
+}
+
+// A number with one more decimal digit.
+fn with_digit(n: u64, digit: u8) -> Numeral
+    ensures { λ r. ⌜ r ≡ withDigit n digit ⌝ }
+{
+    if digit < 48 {
+        return Numeral::Other;
+    }
+    if 57 < digit {
+        return Numeral::Other;
+    }
+    let value = digit as u64 - 48;
+    if (18446744073709551615 - value) / 10 < n {
+        return Numeral::Other;
+    }
+    Numeral::Number(n * 10 + value)
+}
+
+// The number that decimal digits name.
+fn numeral_of(text: &[u8]) -> Numeral
+    ensures { λ r. ⌜ r ≡ numeralOf (now (text .entry)) ⌝ }
+{
+    if text.len() == 0 {
+        return Numeral::Other;
+    }
+    let mut n = 0;
+    let mut i = 0;
+    while i < text.len() {
+        match with_digit(n, text[i]) {
+            Numeral::Number(m) => n = m,
+            Numeral::Other => return Numeral::Other,
+        }
+        i += 1;
+    }
+    Numeral::Number(n)
+}
+
+// The number that argument i names.
+pub fn named_number(i: usize) -> Numeral {
+    let mut name = io::buffer();
+    let n = os::arg(i, &mut name);
+    numeral_of(&name[..n])
 }
 
 // A line of a word and a number.

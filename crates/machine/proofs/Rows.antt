@@ -1,5 +1,5 @@
 -- A row of slots, run one slot at a time: what is left to run, and what the next slot asks. Assumes nothing.
-use Prim.Native.Nat.{ℕ, _+_, _≤_, _<_, _^_}
+use Prim.Native.Nat.{ℕ, _+_, _-_, _≤_, _<_, _^_}
 use mathlib.Core.Path.{_≡_, refl, sym, ap, subst, _∙_}
 use mathlib.Core.List.{List, _∷_}
 use native.Mathlib.Omega.{arith}
@@ -8,6 +8,7 @@ use lib.ListN.{length, getD, drop, length-map, List·getD-map}
 use lib.Seq.{drop-cons, drop-length}
 use Rattle.sections.specs.declared.Shape.{Shape}
 use Rattle.sections.specs.declared.Form.the-variants.{Good}
+use Rattle.sections.specs.Limits.{mostWeeks}
 use Rattle.plant_file.specs.Plant.{Plant, plantOf}
 use Rattle.plant_file.specs.Form.{plantForm}
 use Rattle.slot_file.specs.Slots.{Slot as FileSlot}
@@ -32,7 +33,7 @@ none = record { product = 0; minutes = record { 0 = 0 } }
 -- r is what the first i slots gave
 pub record Reached (f : Shape) (plant : List ℕ) (row : List Slot) (s : State) (i : ℕ) (r : Step) : Type 0 where
   pub within : i ≤ length row
-  pub sane : r .outcome ≡ Continues → Sane f 26 i (r .state)
+  pub sane : r .outcome ≡ Continues → Sane f (mostWeeks - 1) i (r .state)
   pub same : andThen r (runSlots (plantOf f plant) (plantOf f plant .line) (drop i (slotsIn row)))
       ≡ runSlots (plantOf f plant) (plantOf f plant .line) (slotsIn row) s
 

@@ -19,7 +19,8 @@ use Rattle.plant_file.specs.Plant.{plantOf}
 use Rattle.plant_file.specs.Form.{plantForm}
 use Rattle.plant_file.specs.Ranges.{PlantRanges}
 use Rattle.mathematics.proofs.Pairs.{pair-of}
-use Rattle.sections.specs.Limits.{mostChangeoverCents, mostDemand, mostUnitCost, mostStorage, mostWeekMinutes, mostBacklog}
+use Rattle.sections.specs.Limits.{mostProducts, mostWeeks, mostChangeoverCents, mostDemand, mostUnitCost, mostStorage, mostWeekMinutes, mostBacklog}
+use Rattle.plant_file.proofs.PlantKinds.{kind-backlog}
 use Rattle.plant_file.proofs.PlantInRange.{plant-ranges}
 use Rattle.slot_file.specs.Slots.{Slot, noSlot, Slots, SlotsFit}
 use Rattle.machine.specs.declared.State.{State}
@@ -55,9 +56,9 @@ sane-more {f} {w} {k} {v} {j} {s} h l m =
       mounted-below = h .mounted-below;
     }
 
--- no run is wider
-pub sane-roomy : {f : Shape} {w k : ℕ} {s : State} → Sane f w k s → w ≤ 26 → k ≤ 16 → Roomy f s
-sane-roomy h l m = sane-more h l m
+-- no run is wider before a step
+pub sane-roomy : {f : Shape} {w k : ℕ} {s : State} → Sane f w k s → w < mostWeeks → k ≤ mostProducts → Roomy f s
+sane-roomy h l m = sane-more h (omega arith) m
 
 pub begin-sane : {f : Shape} {w k : ℕ} {s : State} → Sane f w k s → Sane f w k (weekBegin s)
 unfolding weekBegin withLine withWeek inventoryOf
@@ -255,7 +256,12 @@ module _ (plant : List ℕ) (f : Shape) (good : plantForm plant ≡ Good f) wher
         backlog-most = λ j q.
             let p = pair-of (f .customers) (f .products) j q in
             rw (rows-flat (f .customers) (f .products) table (replicate 128 0))
-            (omega (arith, row-first n cells (replicate 128 0) (counts plant f good .pairs) j q, ranges .opening-backlog-most _ _ (p .row) (p .column)));
+            (omega (
+              arith,
+              row-first n cells (replicate 128 0) (counts plant f good .pairs) j q,
+              ranges .opening-backlog-most _ _ (p .row) (p .column),
+              kind-backlog (f .kind),
+            ));
         clock-most = omega arith;
         profit-most = omega arith;
         ran-most = omega arith;

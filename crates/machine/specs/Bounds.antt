@@ -1,5 +1,5 @@
 -- The bounds that a run keeps, by which no number overflows. Assumes nothing.
-use Prim.Native.Nat.{ℕ, _+_, _*_, _≤_, _<_}
+use Prim.Native.Nat.{ℕ, _+_, _*_, _-_, _≤_, _<_}
 use mathlib.Core.Path.{_≡_}
 use lib.ListN.{length, getD}
 use lib.Signed.{mag}
@@ -24,6 +24,6 @@ pub record Sane (f : Shape) (w k : ℕ) (s : State) : Type 0 where
   pub ran-most : s .line .ran < 65536
   pub mounted-below : mountedBelow (f .products) (s .line .mounted)
 
--- the widest of these: room for one more step of any run
+-- the widest of these before a step, when at most all weeks but one are over
 abbrev pub Roomy : Shape → State → Type 0
-Roomy f s = Sane f mostWeeks mostProducts s
+Roomy f s = Sane f (mostWeeks - 1) mostProducts s

@@ -1,5 +1,5 @@
 -- What the run of a row of slots asks. Assumes nothing.
-use Prim.Native.Nat.{ℕ, _≤_, _<_, _^_}
+use Prim.Native.Nat.{ℕ, _-_, _≤_, _<_, _^_}
 use mathlib.Core.Path.{_≡_}
 use mathlib.Core.List.{List}
 use lib.ListN.{length, getD}
@@ -14,7 +14,7 @@ use Rattle.machine.specs.Bounds.{Sane}
 -- a good plant file, a state within the bounds of any week's start, and few slots, of known products and with minutes of two bytes
 pub record Runnable (f : Shape) (plant : List ℕ) (xs : List Slot) (s : State) : Type 0 where
   pub plant-good : plantForm plant ≡ Good f
-  pub sane : Sane f mostWeeks 0 s
+  pub sane : Sane f (mostWeeks - 1) 0 s
   pub few : length xs ≤ mostProducts
   pub product : (i : ℕ) → i < length xs → getD xs i noSlot .product < f .products
   pub minutes : (i : ℕ) → i < length xs → getD xs i noSlot .minutes < 2 ^ 16

@@ -133,6 +133,14 @@ pub each-all : (n : ℕ) (p : ℕ → Bool) → ((i : ℕ) → i < n → p i ≡
 each-all zero p h = refl
 each-all (suc n) p h = both-and (allBelow n p) (p n) (each-all n p (λ i l. h i (omega arith))) (h n (omega arith))
 
+-- one that fails is enough
+pub all-fails : (n : ℕ) (p : ℕ → Bool) (i : ℕ) → i < n → p i ≡ false → allBelow n p ≡ false
+all-fails n p i l e = go (allBelow n p) refl
+  where
+    go : (t : Bool) → allBelow n p ≡ t → t ≡ false
+    go true h = absurd (true≢false (sym (all-each n p h i l) ∙ e))
+    go false h = refl
+
 pub within-at : (lo hi x : ℕ) → within lo hi x ≡ true → (lo ≤ x) × (x ≤ hi)
 within-at lo hi x e = let r = and-both (leb lo x) (leb x hi) e in (leb-true lo x (r .0), leb-true x hi (r .1))
 
@@ -201,3 +209,16 @@ pub mul-both : (a b : ℕ) → 1 ≤ a * b → (1 ≤ a) × (1 ≤ b)
 mul-both zero b h = omega arith
 mul-both (suc a) zero h = omega arith
 mul-both (suc a) (suc b) h = omega arith
+
+-- what holds at 0, .., n - 1 holds at each number below n
+abbrev Each : ℕ → (ℕ → Type 0) → Type 0
+Each zero P = Unit
+Each (suc n) P = P 0 × Each n (λ i. P (suc i))
+
+each-at : (n : ℕ) (P : ℕ → Type 0) → Each n P → (i : ℕ) → i < n → P i
+each-at zero P e i l = absurd (omega arith)
+each-at (suc n) P e zero l = e .0
+each-at (suc n) P e (suc i) l = each-at n (λ j. P (suc j)) (e .1) i (omega arith)
+
+pub below-twelve : (P : ℕ → Type 0) → P 0 → P 1 → P 2 → P 3 → P 4 → P 5 → P 6 → P 7 → P 8 → P 9 → P 10 → P 11 → (i : ℕ) → i < 12 → P i
+below-twelve P a b c d e f g h i j k l = each-at 12 P (a, (b, (c, (d, (e, (f, (g, (h, (i, (j, (k, (l, tt))))))))))))

@@ -5,7 +5,7 @@ use mathlib.Core.Logic.{_↔_}
 use native.Mathlib.Omega.{arith}
 use lib.IntN.{ℤ}
 use Rattle.mathematics.proofs.OrderTheorem.{uniqueness}
-use Rattle.plant_file.specs.Plant.{Plant}
+use Rattle.plant_file.specs.Plant.{Plant, shapeOfPlant}
 use Rattle.plant_file.specs.Ranges.{PlantRanges}
 use Rattle.plan_file.specs.Plan.{Plan, LinePlanFits}
 use Rattle.slot_file.specs.Slots.{orderOfSlots, Slots, SameSlots}
@@ -17,7 +17,7 @@ use Rattle.rules.specs.declared.Verdict.the-variants.{Passed}
 use Rattle.rules.specs.Verdict.{verdictOf}
 use Rattle.model.specs.RunTables.{lineTables, runTables}
 use Rattle.model.specs.Model.{Binary}
-use Rattle.model.specs.Match.{shapeOfPlant, Gives, slotsShown}
+use Rattle.model.specs.Match.{Gives, slotsShown}
 use Rattle.model.proofs.RuleFacts.{verdict-rules, rules-verdict}
 use Rattle.model.proofs.RunRules.{run-once}
 use Rattle.model.proofs.PlanRuns.{shown-gives}

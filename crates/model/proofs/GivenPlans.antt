@@ -18,17 +18,19 @@ use Rattle.plant_file.specs.Ranges.{PlantRanges}
 use Rattle.plan_file.specs.Plan.{Plan}
 use Rattle.slot_file.specs.Slots.{Slot, orderOfSlots, Slots}
 use Rattle.machine.specs.declared.State.{State}
+use Rattle.machine.specs.State.{inventoryOf, backlogOf}
 use Rattle.machine.specs.Run.{after}
-use Rattle.rules.specs.Rules.{weekOf}
+use Rattle.rules.specs.Rules.{weekOf, mountedBefore, backlogBefore, inventoryBefore}
 use Rattle.costs.specs.Mounted.{isMounted}
-use Rattle.model.specs.RunTables.{minutesOf, lineTables, mountedAt, runTables}
+use Rattle.model.specs.RunTables.{mountedOf, minutesOf, lineTables, mountedAt, runTables}
 use Rattle.model.specs.Model.{Binary, AmountModel}
 use Rattle.model.specs.Match.{Gives}
-use Rattle.model.proofs.Changeovers.{mounted-bit, no-minutes}
-use Rattle.model.proofs.RunStates.{after-profit}
+use Rattle.model.proofs.Changeovers.{mounted-bit, mounted-of, no-minutes}
+use Rattle.model.proofs.RunStates.{mounted-below, mounted-before, after-profit, backlog-before, inventory-before}
 use Rattle.model.proofs.Stops.{WeekContinues, run-continued}
 use Rattle.model.proofs.RuleFacts.{RulesHold, Times, rules-hold}
 use Rattle.model.proofs.SamePlans.{SameTables, same-tables, week-agree, profit-same, plan-times-same, amounts-same, passages-same}
+use Rattle.model.proofs.SamePlans.{backlog-same, inventory-same}
 use Rattle.model.proofs.RunRules.{run-order, run-times, run-amounts, run-passages}
 
 module _ {P : Plant} (R : PlantRanges P) {S : Slots} {s : State} {x : Plan} (g : Gives P S s x) where
@@ -44,6 +46,20 @@ module _ {P : Plant} (R : PlantRanges P) {S : Slots} {s : State} {x : Plan} (g :
   pub plan-agree : (w : ℕ) → w < P .weeks → Agree (P .products) (weekOf (x .line) w) (orderTables (orderOfSlots (S .line .week w)))
   unfolding weekOf runTables lineTables
   plan-agree w l = week-agree (tables .line) w l
+
+  -- what the plan has before a week is what the run has then
+  pub given-inventory : (w i : ℕ) → w < P .weeks → i < P .products → inventoryBefore P x w i ≡ inventoryOf (after P S w) i
+  given-inventory w i l k = inventory-same P x (runTables P S) tables w i l k ∙ inventory-before P S R w i k
+
+  pub given-backlog : (w c i : ℕ) → w < P .weeks → c < P .customers → i < P .products
+      → backlogBefore P x w c i ≡ backlogOf (P .products) (after P S w) c i
+  given-backlog w c i l j k = backlog-same P x (runTables P S) tables w c i l j k ∙ backlog-before P S R w c i j k
+
+  pub given-mounted : (w : ℕ) → w < P .weeks → mountedOf (P .products) (mountedBefore (P .products) (P .line) (x .line) w) ≡ mountedAt P S w
+  given-mounted w l =
+      mounted-of (P .products) (mountedAt P S w) (mountedBefore (P .products) (P .line) (x .line) w)
+      (mounted-below P S (R .line) w (λ v k. g .formed v (omega arith)))
+      (mounted-before P S (x .line) (P .weeks) (g .formed) plan-agree w (omega arith))
 
   plan-meets : (w : ℕ) → w < P .weeks → Meets (P .products) (weekOf (x .line) w)
   plan-meets w l = order-meets (P .products) (weekOf (x .line) w) (orderOfSlots (S .line .week w)) (is-order w l) (plan-agree w l)

@@ -13,3 +13,4 @@ pub mod Agreement
 pub mod Widths
 pub mod ModelTheorem
 pub mod SmallPlantFacts
+pub mod RolledTests

@@ -27,6 +27,11 @@ pub week-more : (s c b i s' c' b' i' : ℕ)
 week-more s c b i s' c' b' i' =
     simp (lose-gain, lose-lose, pos-+ℤ-pos) (lose-same (pos (s + s')) (c + b + i + c' + b' + i') (c + c' + (b + b') + (i + i')) (omega arith))
 
+-- where two profits come to a third, they do so after a week more of the second and of the third, with the same amounts
+pub both-more : (y z : ℤ) {t : ℤ} {c c' s s' b b' i i' : ℕ} → y +ℤ z ≡ t → c ≡ c' → s ≡ s' → b ≡ b' → i ≡ i'
+    → y +ℤ (z -ℤ pos c +ℤ pos s -ℤ pos b -ℤ pos i) ≡ t -ℤ pos c' +ℤ pos s' -ℤ pos b' -ℤ pos i'
+both-more y z all over sales late held = rw (← all, over, sales, late, held) (simp +ℤ-assoc)
+
 -- ---- the test of equality
 pub same-equal : (a b : ℤ) → sameInteger a b ≡ true → a ≡ b
 same-equal (pos a) (pos b) h = ap pos (eqb-true a b h)

@@ -16,7 +16,7 @@ use Rattle.plant_file.specs.Ranges.{LineRanges, PlantRanges}
 use Rattle.plan_file.specs.Plan.{LinePlan}
 use Rattle.slot_file.specs.Slots.{Slot, orderOfSlots, WeekFormed, Slots}
 use Rattle.slot_file.proofs.Orders.{order-below}
-use Rattle.costs.specs.Money.{changeoverChargeOf}
+use Rattle.costs.specs.Money.{revenueOf, backlogChargeOf, inventoryChargeOf, changeoverChargeOf}
 use Rattle.costs.proofs.Changeovers.{opening-below}
 use Rattle.costs.specs.declared.Mounted.{Mounted}
 use Rattle.costs.specs.declared.Mounted.the-variants.{Product}
@@ -150,17 +150,21 @@ module _ (P : Plant) (S : Slots) where
   unfolding ranWeek weekBegin withLine withWeek
   ran-clock w = omega (arith, slots-clock (P .line) (S .line .week w) (weekBegin (after P S w)))
 
-  -- the profit so far
-  ran-profit : LineRanges (P .products) (P .line) → (n : ℕ) → FormedTo (suc n)
-      → ran n .profit .0 ≡ after P S n .profit .0 -ℤ pos (changeoverChargeIn P (runTables P S) n)
-  unfolding ranWeek weekBegin withLine withWeek changeoverChargeIn runTables
-  ran-profit R n f =
-      slots-profit (P .line) (S .line .week n) (weekBegin (after P S n))
-      ∙ ap (λ (x : ℕ). after P S n .profit .0 -ℤ pos (changeoverChargeOf x))
-      (sym (changeover-total R (P .line .changeoverCents) n (λ w l. f w (omega arith)) (f n (omega arith))))
+  -- the profit: a week's, and so far
+  pub next-profit : (w : ℕ) → after P S (suc w) .profit .0
+      ≡ after P S w .profit .0 -ℤ pos (changeoverChargeOf (totalChangeover (P .line .changeoverCents) (mountedAt P S w) (order w)))
+      +ℤ pos (revenueOf P (λ c i. S .sales c i w)) -ℤ pos (backlogChargeOf P (backlogOf (P .products) (after P S (suc w))))
+      -ℤ pos (inventoryChargeOf P (inventoryOf (after P S (suc w))))
+  unfolding ranWeek weekBegin withLine withWeek
+  next-profit w =
+      let late = backlogChargeOf P (backlogOf (P .products) (after P S (suc w))) in
+      let held = inventoryChargeOf P (inventoryOf (after P S (suc w))) in
+      week-profit P (weekInput P S w) (ran w)
+      ∙ ap (λ (z : ℤ). z +ℤ pos (revenueOf P (λ c i. S .sales c i w)) -ℤ pos late -ℤ pos held)
+      (slots-profit (P .line) (S .line .week w) (weekBegin (after P S w)))
 
   pub after-profit : LineRanges (P .products) (P .line) → (n : ℕ) → FormedTo n → after P S n .profit .0 ≡ profitOf P (runTables P S) n
-  unfolding opening profitOf revenueIn backlogChargeIn inventoryChargeIn runTables
+  unfolding opening profitOf revenueIn changeoverChargeIn backlogChargeIn inventoryChargeIn runTables
   after-profit R zero f = refl
   after-profit R (suc n) f =
       let x = runTables P S in
@@ -168,9 +172,10 @@ module _ (P : Plant) (S : Slots) where
       let over = changeoverChargeIn P x in
       let late = backlogChargeIn P x in
       let held = inventoryChargeIn P x in
-      week-profit P (weekInput P S n) (ran n)
-      ∙ ap (λ (z : ℤ). z +ℤ pos (sales n) -ℤ pos (late n) -ℤ pos (held n))
-      (ran-profit R n f ∙ ap (λ (z : ℤ). z -ℤ pos (over n)) (after-profit R n (λ w l. f w (omega arith))))
+      let g : FormedTo n = λ w l. f w (omega arith) in
+      let total = changeover-total R (P .line .changeoverCents) n g (f n (omega arith)) in
+      next-profit n
+      ∙ (λ u. after-profit R n g u -ℤ pos (changeoverChargeOf (sym total u)) +ℤ pos (sales n) -ℤ pos (late n) -ℤ pos (held n))
       ∙ week-more (sumBelow n sales) (sumBelow n over) (sumBelow n late) (sumBelow n held) (sales n) (over n) (late n) (held n)
 
   -- ---- backlog and inventory

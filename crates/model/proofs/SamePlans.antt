@@ -7,7 +7,7 @@ use lib.IntN.{pos, _-ℤ_}
 use Rattle.mathematics.specs.Order.{Agree}
 use Rattle.mathematics.proofs.Below.{sum-ext}
 use Rattle.mathematics.proofs.WeekRules.{shut-agree}
-use Rattle.plant_file.specs.Plant.{LinePlant, Plant}
+use Rattle.plant_file.specs.Plant.{LinePlant, Plant, shapeOfPlant}
 use Rattle.plan_file.specs.Plan.{LinePlan, Plan, Same2, Same3, SameLinePlan, SamePlan}
 use Rattle.sections.specs.declared.Shape.{Shape}
 use Rattle.costs.specs.Changeover.{changeoverBetween}
@@ -16,7 +16,6 @@ use Rattle.rules.specs.Rules.{weekOf, productionEnd, mountedAfter, mountedBefor
 use Rattle.rules.specs.Rules.{revenueIn, changeoverChargeIn, backlogChargeIn, inventoryChargeIn, profitOf}
 use Rattle.rules.proofs.Weeks.{mounted-next}
 use Rattle.model.specs.Model.{TimeModel, AmountModel}
-use Rattle.model.specs.Match.{shapeOfPlant}
 use Rattle.model.proofs.Grids.{grid-ext}
 use Rattle.model.proofs.RuleFacts.{under-minutes, passage-facts, facts-passage, Times}
 
@@ -124,12 +123,12 @@ module _ (P : Plant) (x y : Plan) (m : SameTables P x y) where
       (λ i k. rw (m .inventory w i (omega arith) k))) in
       λ i. pos (a i) -ℤ pos (b i) -ℤ pos (c i) -ℤ pos (d i)
 
-  backlog-same : (w c i : ℕ) → w < P .weeks → c < P .customers → i < P .products → backlogBefore P x w c i ≡ backlogBefore P y w c i
+  pub backlog-same : (w c i : ℕ) → w < P .weeks → c < P .customers → i < P .products → backlogBefore P x w c i ≡ backlogBefore P y w c i
   unfolding backlogBefore
   backlog-same zero c i l j k = refl
   backlog-same (suc w) c i l j k = m .backlog c i w j k (omega arith)
 
-  inventory-same : (w i : ℕ) → w < P .weeks → i < P .products → inventoryBefore P x w i ≡ inventoryBefore P y w i
+  pub inventory-same : (w i : ℕ) → w < P .weeks → i < P .products → inventoryBefore P x w i ≡ inventoryBefore P y w i
   unfolding inventoryBefore
   inventory-same zero i l k = refl
   inventory-same (suc w) i l k = m .inventory w i (omega arith) k

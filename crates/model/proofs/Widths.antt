@@ -12,8 +12,9 @@ use Rattle.mathematics.specs.Below.{sumBelow}
 use Rattle.mathematics.proofs.Tables.{sum-few}
 use Rattle.sections.specs.Limits.{mostProducts, mostCustomers, mostWeeks, mostChangeoverCents, mostDemand, mostUnitCost, mostStorage}
 use Rattle.sections.specs.Limits.{mostOpeningBacklog, mostWeekMinutes, mostBacklog}
-use Rattle.plant_file.specs.Plant.{Plant}
+use Rattle.plant_file.specs.Plant.{Plant, shapeOfPlant}
 use Rattle.plant_file.specs.Ranges.{PlantRanges}
+use Rattle.plant_file.proofs.PlantKinds.{kind-backlog}
 use Rattle.plan_file.specs.Plan.{Plan, PlanFits}
 use Rattle.slot_file.specs.Slots.{Slot, noSlot, Slots, SlotsFit}
 use Rattle.units.specs.declared.Profit.{Profit}
@@ -27,7 +28,7 @@ use Rattle.rules.specs.Rules.{weekOf, changeoversUnder, changeoversIn, backlogB
 use Rattle.rules.specs.Rules.{profitOf}
 use Rattle.model.specs.RunTables.{runTables}
 use Rattle.model.specs.Model.{Binary, AmountModel}
-use Rattle.model.specs.Match.{shapeOfPlant, Gives, slotsShown}
+use Rattle.model.specs.Match.{Gives, slotsShown}
 use Rattle.model.proofs.Grids.{grid-most}
 use Rattle.model.proofs.Changeovers.{totalMinutes}
 use Rattle.model.proofs.RuleFacts.{RulesHold, rules-times, amounts-of, profit-of}
@@ -55,7 +56,7 @@ module _ (P : Plant) (R : PlantRanges P) (x : Plan) (b : Binary P x) (r : RulesH
   -- backlog grows by a week's demand at most
   before-most : (n c i : ℕ) → n ≤ P .weeks → c < P .customers → i < P .products → backlogBefore P x n c i ≤ mostOpeningBacklog + n * mostDemand
   unfolding backlogBefore
-  before-most zero c i l j k = omega (arith, R .opening-backlog-most c i j k)
+  before-most zero c i l j k = omega (arith, R .opening-backlog-most c i j k, kind-backlog (P .kind))
   before-most (suc n) c i l j k =
       omega (arith, amounts n (omega arith) .backlogs c i j k, before-most n c i (omega arith) j k, R .demand-most c i n j k (omega arith))
 

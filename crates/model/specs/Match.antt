@@ -3,8 +3,7 @@ use Prim.Native.Nat.{ℕ, _<_}
 use mathlib.Core.Path.{_≡_}
 use mathlib.Core.List.{List, [], _∷_}
 use Rattle.mathematics.specs.Order.{orderOf}
-use Rattle.sections.specs.declared.Shape.{Shape}
-use Rattle.plant_file.specs.Plant.{Plant}
+use Rattle.plant_file.specs.Plant.{Plant, shapeOfPlant}
 use Rattle.plan_file.specs.Plan.{LinePlan, Plan, SamePlan}
 use Rattle.slot_file.specs.Slots.{Slot, WeekFormed, LineSlots, Slots}
 use Rattle.machine.specs.declared.State.{State}
@@ -12,10 +11,6 @@ use Rattle.machine.specs.State.{continues}
 use Rattle.machine.specs.Run.{run}
 use Rattle.rules.specs.Rules.{weekOf}
 use Rattle.model.specs.RunTables.{runTables}
-
--- the kind, N, C and W
-abbrev pub shapeOfPlant : Plant → Shape
-shapeOfPlant P = record { kind = P .kind; products = P .products; customers = P .customers; weeks = P .weeks }
 
 -- row 24, of every week
 abbrev pub Formed : Plant → Slots → Type 0

@@ -20,16 +20,14 @@ use Rattle.units.specs.declared.Profit.{Profit}
 use Rattle.machine.specs.Run.{after}
 use Rattle.rules.specs.declared.Verdict.{Verdict}
 use Rattle.rules.specs.declared.Verdict.the-variants as verdict
-use Rattle.rules.specs.Rules.{weekOf, mountedBefore}
+use Rattle.rules.specs.Rules.{weekOf}
 use Rattle.rules.specs.Verdict.{verdictOf}
 use Rattle.model.specs.RunTables.{mountedAt}
 use Rattle.model.specs.Model.{Binary}
 use Rattle.model.specs.Match.{Gives}
 use Rattle.model.proofs.RuleFacts.{verdict-rules}
 use Rattle.model.proofs.PlanRuns.{plan-meets}
-use Rattle.model.proofs.GivenPlans.{plan-agree}
-use Rattle.model.proofs.Changeovers.{mounted-of}
-use Rattle.model.proofs.RunStates.{mounted-below, mounted-before}
+use Rattle.model.proofs.GivenPlans.{given-mounted}
 use Rattle.model.proofs.Agreement.{passing-runs, fits-binary}
 use Rattle.passed_plan.specs.declared.Pass.{Pass}
 use Rattle.passed_plan.specs.declared.Judgement.{Judgement}
@@ -98,8 +96,5 @@ passed-plan f plant plan q bytes h =
         known = λ w k l m. product-at (f .products) (weekOf (x .line) w) (plan-meets P x b r w l) k m .1;
       };
       given = g;
-      mounted = λ w l.
-          mounted-of (f .products) (mountedAt P (shownIn f plan) w) (mountedBefore (f .products) (P .line) (x .line) w)
-          (mounted-below P (shownIn f plan) (R .line) w (λ v k. g .formed v (omega arith)))
-          (mounted-before P (shownIn f plan) (x .line) (f .weeks) (g .formed) (plan-agree R g) w (omega arith));
+      mounted = given-mounted R g;
     }

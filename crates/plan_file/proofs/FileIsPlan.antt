@@ -15,11 +15,12 @@ use Rattle.sections.specs.Section.{inRange, grid, cube}
 use Rattle.sections.specs.declared.Shape.{Shape}
 use Rattle.sections.specs.declared.Form.the-variants.{Good}
 use Rattle.sections.proofs.Tables.{section-at, grid-at, cube-at}
+use Rattle.sections.proofs.Places.{Small}
 use Rattle.sections.proofs.Layouts.{table-rows}
 use Rattle.plan_file.specs.Plan.{Plan, linePlanOf, planOf, Same2, Same3, SamePlan, Below2, Below3, PlanFits}
 use Rattle.plan_file.specs.Form.{planLengths, binary, planForm}
 use Rattle.plan_file.specs.File.{planBodies, planFile}
-use Rattle.plan_file.proofs.Lengths.{Small, listable}
+use Rattle.plan_file.proofs.Lengths.{listable}
 use Rattle.mathematics.proofs.Lists.{flat-each, flat-each3}
 use Rattle.sections.proofs.Bodies.{grid-length, cube-length}
 use Rattle.plan_file.proofs.PlanReads.{facts-binary, bits-range}

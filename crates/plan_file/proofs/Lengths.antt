@@ -9,7 +9,7 @@ use Rattle.numbers.specs.Number.{Width}
 use Rattle.contents.specs.File.{start, Listable}
 use Rattle.sections.specs.Section.{Holds, Laid}
 use Rattle.sections.specs.declared.Shape.{Shape}
-use Rattle.sections.proofs.Places.{byte-most}
+use Rattle.sections.proofs.Places.{Small, byte-most}
 use Rattle.sections.proofs.Rows.{laid-holds}
 use Rattle.plan_file.specs.Form.{planLengths}
 
@@ -18,10 +18,6 @@ pub holds : (f : Shape) {s : List ℕ} → Laid s (planLengths f) → (place : �
     → getD (planLengths f) place 0 ≡ k * n → m ≡ n → Holds s place k (0 + m)
 holds f z place l {k} {m} w e q =
     laid-holds z place l k (0 + m) w (omega (arith, e, ap (λ (x : ℕ). k * x) (zero-add m ∙ q)))
-
--- a shape whose counts have a byte each
-abbrev pub Small : Shape → Type 0
-Small f = (f .products < 256) × (f .customers < 256) × (f .weeks < 256)
 
 -- the contents of a plan have room for where its bodies begin
 pub listable : (f : Shape) → Small f → Listable 21 (planLengths f)

@@ -1,9 +1,10 @@
 -- A GOOD PLAN FILE IS THE LAYOUT OF ITS NUMBERS, byte for byte. Assumes nothing.
-use Prim.Native.Nat.{ℕ, zero, suc, _+_, _*_, _<_}
+use Prim.Native.Nat.{ℕ, _+_, _*_, _<_}
 use mathlib.Core.Path.{_≡_, refl, ap, _∙_, sym}
 use mathlib.Core.List.{List, []}
 use native.Mathlib.Omega.{arith}
 use lib.ListN.{getD}
+use Rattle.mathematics.proofs.Below.{below-twelve}
 use Rattle.numbers.specs.Number.{Bytes, Width, digits, encode, part}
 use Rattle.numbers.specs.Signed.{signedOf, unsignedOf}
 use Rattle.numbers.proofs.TwosComplement.{unsigned-signed}
@@ -20,19 +21,6 @@ use Rattle.plan_file.specs.Plan.{linePlanOf, planOf}
 use Rattle.plan_file.specs.Form.{planLengths, planForm}
 use Rattle.plan_file.specs.File.{planBodies, planFile}
 use Rattle.plan_file.proofs.PlanReads.{plan-good, cell-below}
-
--- what holds at 0, .., n - 1 holds at each number below n
-abbrev Each : ℕ → (ℕ → Type 0) → Type 0
-Each zero P = Unit
-Each (suc n) P = P 0 × Each n (λ i. P (suc i))
-
-each-at : (n : ℕ) (P : ℕ → Type 0) → Each n P → (i : ℕ) → i < n → P i
-each-at zero P e i l = absurd (omega arith)
-each-at (suc n) P e zero l = e .0
-each-at (suc n) P e (suc i) l = each-at n (λ j. P (suc j)) (e .1) i (omega arith)
-
-below-twelve : (P : ℕ → Type 0) → P 0 → P 1 → P 2 → P 3 → P 4 → P 5 → P 6 → P 7 → P 8 → P 9 → P 10 → P 11 → (i : ℕ) → i < 12 → P i
-below-twelve P a b c d e f g h i j k l = each-at 12 P (a, (b, (c, (d, (e, (f, (g, (h, (i, (j, (k, (l, tt))))))))))))
 
 module _ (f : Shape) (s : List ℕ) (b : Bytes s) (h : planForm f s ≡ Good f) where
   -- the body in a place is the encoding of its numbers

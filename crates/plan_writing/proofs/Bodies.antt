@@ -1,30 +1,23 @@
 -- Each body of a plan is its rows in file order, end to end. Assumes nothing.
-use Prim.Native.Nat.{ℕ, zero, suc, _+_, _*_, _/_, _%_, _-_, _≤_, _<_}
+use Prim.Native.Nat.{ℕ, zero, suc, _*_, _/_, _%_, _<_}
 use mathlib.Core.Path.{_≡_, refl, sym, ap, _∙_}
-use mathlib.Core.List.{List, [], _∷_, map, append-nil}
+use mathlib.Core.List.{List, [], _∷_, map}
 use native.Mathlib.Omega.{arith}
-use native.Mathlib.Nat.{mul-comm}
 use lib.ListN.{length, getD}
-use borrow.Rule.Slice.PartMut.{midOf, putMid}
 use Rattle.mathematics.specs.Below.{joinBelow, listBelow}
-use Rattle.mathematics.proofs.Join.{join-ext, join-table, even-length}
+use Rattle.mathematics.proofs.Join.{join-ext, join-table}
 use Rattle.mathematics.proofs.Lists.{list-at}
-use Rattle.numbers.specs.Number.{digits, encode, store}
-use Rattle.numbers.proofs.Number.{encode-length}
-use Rattle.numbers.proofs.Store.{part-store, store-join}
-use Rattle.contents.specs.File.{start, contentsBytes}
-use Rattle.contents.proofs.FileStored.{firstBodies, body-stored, all-stored}
+use Rattle.numbers.specs.Number.{digits, encode}
+use Rattle.contents.proofs.FileStored.{firstBodies, all-stored}
 use Rattle.sections.specs.Section.{grid, cube}
 use Rattle.sections.specs.declared.Shape.{Shape}
+use Rattle.sections.proofs.Tables.{cube-rows}
+use Rattle.sections.proofs.Bodies.{rows-length}
 use Rattle.plan_file.specs.Plan.{Plan}
 use Rattle.plan_file.specs.Form.{planLengths}
 use Rattle.plan_file.specs.File.{planBodies, planFile}
 use Rattle.plan_file.proofs.FileIsPlan.{bodies-lengths}
 use Rattle.plan_writing.specs.Bodies.{sectionOf, rowIn}
-
-cube-rows : (k l m n : ℕ) (t : ℕ → ℕ → ℕ → ℕ) → cube k l m n t ≡ joinBelow (l * m) (λ r. encode k n (t (r / m) (r % m)))
-unfolding cube grid
-cube-rows k l m n t = join-table l m (λ h i. encode k n (t h i))
 
 -- the last two indices as one
 cube-squares : (k l m n : ℕ) (t : ℕ → ℕ → ℕ → ℕ) → cube k l m n t ≡ joinBelow l (λ h. encode k (m * n) (λ j. t h (j / n) (j % n)))
@@ -83,20 +76,6 @@ week-rows f (suc (suc (suc (suc (suc (suc zero)))))) l = refl
 week-rows f (suc (suc (suc (suc (suc (suc (suc zero))))))) l = refl
 week-rows f (suc (suc (suc (suc (suc (suc (suc (suc place)))))))) l = absurd (omega arith)
 
--- rows of one size
-pub rows-length : (k n r : ℕ) (g : ℕ → ℕ → ℕ) → length (joinBelow r (λ q. encode k n (g q))) ≡ r * (k * n)
-rows-length k n r g = even-length r (k * n) (λ q. encode k n (g q)) (λ q. encode-length k n (g q))
-
--- the next row, stored in the stretch that is lent
-pub row-stored : (k n : ℕ) (g : ℕ → ℕ → ℕ) (s out new : List ℕ) (r p : ℕ) → out ≡ store s 0 (joinBelow r (λ q. encode k n (g q)))
-    → p ≡ k * n * r → p ≤ length out → new ≡ store (midOf p (length out - p) out) 0 (encode k n (g r))
-    → putMid p (length out - p) out new ≡ store s 0 (joinBelow (r + 1) (λ q. encode k n (g q)))
-row-stored k n g s out new r p e d l h =
-    let bytes : ℕ → List ℕ = λ q. encode k n (g q) in
-    ap (putMid p (length out - p) out) h
-    ∙ (part-store out p (bytes r) l
-    ∙ (ap (λ (x : List ℕ). store x p (bytes r)) e ∙ store-join r bytes s p (rows-length k n r g ∙ (mul-comm r (k * n) ∙ sym d))))
-
 length-at : (bodies : List (List ℕ)) (place : ℕ) → length (getD bodies place []) ≡ getD (map length bodies) place 0
 length-at [] place = refl
 length-at (b ∷ bodies) zero = refl
@@ -109,21 +88,7 @@ body-length f x place l =
     sym (rows-length (sectionOf f place .width) (sectionOf f place .columns) (sectionOf f place .rows) (rowIn f x place))
     ∙ (ap length (body-is f x place l) ∙ (length-at (planBodies f x) place ∙ ap (λ (n : List ℕ). getD n place 0) (bodies-lengths f x)))
 
--- ---- the bodies one after the other
-pub contents-first : (f : Shape) (x : Plan) → contentsBytes 2 21 (planLengths f) ≡ firstBodies 2 21 (planBodies f x) 0
-unfolding firstBodies
-contents-first f x = ap (contentsBytes 2 21) (sym (bodies-lengths f x)) ∙ sym (append-nil (contentsBytes 2 21 (map length (planBodies f x))))
-
+-- ---- all bodies one after the other
 pub file-last : (f : Shape) (x : Plan) → firstBodies 2 21 (planBodies f x) 12 ≡ planFile f x
 unfolding planBodies planFile
 file-last f x = all-stored 2 21 (planBodies f x)
-
--- the next body, stored in the stretch that is lent
-pub stretch-stored : (f : Shape) (x : Plan) (s out : List ℕ) (place from : ℕ) → out ≡ store s 0 (firstBodies 2 21 (planBodies f x) place)
-    → from ≡ start (planLengths f) place → from ≤ length out
-    → putMid from (length out - from) out (store (midOf from (length out - from) out) 0 (getD (planBodies f x) place []))
-    ≡ store s 0 (firstBodies 2 21 (planBodies f x) (place + 1))
-stretch-stored f x s out place from e d l =
-    let body = getD (planBodies f x) place [] in
-    let there = d ∙ ap (λ (n : List ℕ). start n place) (sym (bodies-lengths f x)) in
-    part-store out from body l ∙ ((λ u. store (e u) (there u) body) ∙ body-stored 2 21 (planBodies f x) s place)

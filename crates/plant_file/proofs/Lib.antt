@@ -1,6 +1,11 @@
 pub mod PlantKinds
 pub mod Cells
+pub mod Lengths
 pub mod PlantReads
 pub mod PlantInRange
+pub mod PlantAccepted
 pub mod PlantAccess
 pub mod SamePlantFiles
+pub mod PlantIsFile
+pub mod FileIsPlant
+pub mod GoodRates

@@ -22,8 +22,8 @@ use Rattle.plant_file.specs.Kinds.{plantKind}
 use Rattle.plant_file.specs.Form.{inLimits, diagonalsInRange, mountedKnown, mountedInRange, lineInRange, marketInRange, storageInRange}
 use Rattle.plant_file.specs.Form.{openingInRange, timeInRange, plantInRange, plantForm}
 use Rattle.plant_file.specs.Ranges.{LineRanges, PlantRanges}
-use Rattle.plant_file.proofs.PlantKinds.{kind-backlog, kind-diagonals}
-use Rattle.plant_file.proofs.PlantReads.{plant-good}
+use Rattle.plant_file.proofs.PlantKinds.{kind-diagonals}
+use Rattle.plant_file.proofs.PlantReads.{plant-good, known-number}
 
 diagonal-at : (k : ℕ) (s : List ℕ) (i n : ℕ) → diagonalZero k s i n ≡ true → (j : ℕ) → j < n → cell k s i (j * n + j) ≡ 0
 unfolding diagonalZero
@@ -68,7 +68,7 @@ storage-at s n h i l =
     (leb-true _ _ (r .0), leb-true _ _ (r .1))
 
 pub plant-ranges : (s : List ℕ) (f : Shape) → plantForm s ≡ Good f → PlantRanges (plantOf f s)
-unfolding demandIn priceIn backlogCostIn inventoryCostIn leastStorageIn greatestStorageIn openingInventoryIn openingBacklogIn shortestRunIn weekMinutesIn inLimits plantInRange marketInRange openingInRange timeInRange
+unfolding demandIn priceIn backlogCostIn inventoryCostIn leastStorageIn greatestStorageIn openingInventoryIn openingBacklogIn shortestRunIn weekMinutesIn mountedIn shutBeforeIn inLimits plantInRange marketInRange openingInRange timeInRange
 plant-ranges s f good =
     let g = plant-good s f good in
     let n = f .products in
@@ -89,6 +89,8 @@ plant-ranges s f good =
     let time = and-both (within 1 (cell 2 s 10 1) (cell 2 s 10 0)) _ (e .1) in
     let shortest = within-at 1 (cell 2 s 10 1) (cell 2 s 10 0) (time .0) in
     record {
+      kind-known = known-number s f good;
+      none-mounted = λ e. (rw e refl, rw e refl);
       products-least = limitN .0;
       products-most = limitN .1;
       customers-least = limitC .0;
@@ -104,8 +106,7 @@ plant-ranges s f good =
       storage-most = λ i x. storage-at s n (d .0) i x .1;
       opening-inventory-most = λ i x. range-first 4 s 9 n 0 mostStorage (opening .0) i x .1;
       opening-backlog-most =
-          λ c i x y.
-          rw (← (kind-backlog (f .kind))) (range-at 4 s 9 n cn 0 (plantKind (f .kind) .backlog) (opening .1) (c * n + i) (table-below x y) .1);
+          λ c i x y. range-at 4 s 9 n cn 0 (plantKind (f .kind) .backlog) (opening .1) (c * n + i) (table-below x y) .1;
       shortest-least = shortest .0;
       shortest-most = shortest .1;
       week-most = leb-true _ _ (time .1);

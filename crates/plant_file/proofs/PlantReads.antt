@@ -101,6 +101,14 @@ plant-good s f e =
 pub good-laid : (s : List ℕ) (f : Shape) → plantForm s ≡ Good f → Laid s (plantLengths f)
 good-laid s f e = let g = plant-good s f e in plant-laid s f (g .kind) (g .head) (g .laid) (g .lengths)
 
+-- row 1: the kind byte is a kind's number
+pub known-number : (s : List ℕ) (f : Shape) → plantForm s ≡ Good f → plantKind (f .kind) .number ≡ f .kind
+unfolding plantHeaded
+known-number s f e =
+    let g = plant-good s f e in
+    let k = plantKind (getD s 0 0) in
+    rw (g .kind) at (sym (headed-facts s (k .number) 1 (k .sections) (g .head) .kinds))
+
 -- section 12 out of its range is row 5, of a file past rows 1 to 4
 pub outside-refused : (s : List ℕ) → plantHeaded s ≡ true → laidOut s ≡ true → inLimits (shapeOf s) ≡ true
     → sized s (plantLengths (shapeOf s)) ≡ true → mountedInRange s (shapeOf s) ≡ false → plantForm s ≡ Refused 5

@@ -3,13 +3,13 @@
 use Prim.Native.Nat.{ℕ, zero, suc, _+_, _*_, _-_, _≤_, _<_}
 use mathlib.Core.Path.{_≡_, refl, sym, ap, _∙_}
 use mathlib.Core.Bool.{cond}
-use mathlib.Core.List.{List}
+use mathlib.Core.List.{List, _++_}
 use native.Mathlib.Omega.{arith}
 use lib.ListN.{length, getD}
 use Rattle.mathematics.proofs.Below.{sum-prefix}
-use Rattle.mathematics.proofs.Join.{table-below}
-use Rattle.numbers.specs.Number.{numberAt}
-use Rattle.numbers.proofs.Number.{room}
+use Rattle.mathematics.proofs.Join.{table-below, join-ext}
+use Rattle.numbers.specs.Number.{numberAt, digits}
+use Rattle.numbers.proofs.Number.{room, encode-ext}
 use Rattle.contents.specs.Contents.{entryAt, entry, offset, extent, cell}
 use Rattle.contents.proofs.Facts.{Placed, placed-facts, offset-sum}
 use Rattle.sections.specs.Section.{Laid}
@@ -17,34 +17,18 @@ use Rattle.sections.specs.declared.Shape.{Shape}
 use Rattle.sections.specs.declared.Form.the-variants.{Good}
 use Rattle.sections.specs.Limits.{nothingMounted}
 use Rattle.sections.proofs.Rows.{laid-extent}
+use Rattle.sections.proofs.Bodies.{grid-ext, cube-ext}
 use Rattle.sections.proofs.Tables.{cube-below}
 use Rattle.plant_file.specs.Plant.{rateIn, changeoverMinutesIn, changeoverCentsIn, demandIn, priceIn, backlogCostIn, inventoryCostIn}
 use Rattle.plant_file.specs.Plant.{leastStorageIn, greatestStorageIn, openingInventoryIn, openingBacklogIn, shortestRunIn, weekMinutesIn}
-use Rattle.plant_file.specs.Plant.{plantOf, mountedIn, shutBeforeIn}
+use Rattle.plant_file.specs.Plant.{Plant, shapeOfPlant, plantOf, mountedIn, shutBeforeIn}
+use Rattle.plant_file.specs.File.{plantBodies, plantFile}
 use Rattle.plant_file.proofs.Cells.{byte-cell}
+use Rattle.plant_file.specs.Same.{SamePlant}
 use Rattle.plant_file.specs.Kinds.{plantKind, hasMounted}
 use Rattle.plant_file.specs.Form.{plantLengths, plantForm}
 use Rattle.plant_file.proofs.PlantKinds.{kind-lengths, has-section}
 use Rattle.plant_file.proofs.PlantReads.{good-laid}
-
--- of one shape f, the same numbers within their ranges, but for whether the week before was shut
-pub record SameNumbers (f : Shape) (a b : List ℕ) : Type 0 where
-  pub rate : (i : ℕ) → i < f .products → plantOf f a .line .rate i ≡ plantOf f b .line .rate i
-  pub changeoverMinutes : (i j : ℕ) → i < f .products → j < f .products
-      → plantOf f a .line .changeoverMinutes i j ≡ plantOf f b .line .changeoverMinutes i j
-  pub changeoverCents : (i j : ℕ) → i < f .products → j < f .products
-      → plantOf f a .line .changeoverCents i j ≡ plantOf f b .line .changeoverCents i j
-  pub mounted : plantOf f a .line .mounted ≡ plantOf f b .line .mounted
-  pub demand : (c i w : ℕ) → c < f .customers → i < f .products → w < f .weeks → plantOf f a .demand c i w ≡ plantOf f b .demand c i w
-  pub price : (c i : ℕ) → c < f .customers → i < f .products → plantOf f a .price c i ≡ plantOf f b .price c i
-  pub backlogCost : (c i : ℕ) → c < f .customers → i < f .products → plantOf f a .backlogCost c i ≡ plantOf f b .backlogCost c i
-  pub inventoryCost : (i : ℕ) → i < f .products → plantOf f a .inventoryCost i ≡ plantOf f b .inventoryCost i
-  pub leastStorage : (i : ℕ) → i < f .products → plantOf f a .leastStorage i ≡ plantOf f b .leastStorage i
-  pub greatestStorage : (i : ℕ) → i < f .products → plantOf f a .greatestStorage i ≡ plantOf f b .greatestStorage i
-  pub openingInventory : (i : ℕ) → i < f .products → plantOf f a .openingInventory i ≡ plantOf f b .openingInventory i
-  pub openingBacklog : (c i : ℕ) → c < f .customers → i < f .products → plantOf f a .openingBacklog c i ≡ plantOf f b .openingBacklog c i
-  pub shortestRun : plantOf f a .shortestRun ≡ plantOf f b .shortestRun
-  pub weekMinutes : plantOf f a .weekMinutes ≡ plantOf f b .weekMinutes
 
 -- a number is the same where the bytes up to its end are
 number-same : (k : ℕ) (a b : List ℕ) (from : ℕ) → ((j : ℕ) → j < from + k → getD b j 0 ≡ getD a j 0) → numberAt k a from ≡ numberAt k b from
@@ -109,7 +93,7 @@ section-bytes f s good four =
 
 -- the first file's rows are enough: the other's contents are the same
 pub same-numbers : (f : Shape) (a b : List ℕ) → plantForm a ≡ Good f → f .kind ≡ 4 → ((j : ℕ) → j + 1 < length a → getD b j 0 ≡ getD a j 0)
-    → SameNumbers f a b
+    → SamePlant (plantOf f a) (plantOf f b)
 unfolding rateIn changeoverMinutesIn changeoverCentsIn demandIn priceIn backlogCostIn inventoryCostIn leastStorageIn greatestStorageIn openingInventoryIn openingBacklogIn shortestRunIn weekMinutesIn mountedIn
 same-numbers f a b good four agree =
     let n = f .products in
@@ -135,3 +119,34 @@ same-numbers f a b good four agree =
       shortestRun = same 2 10 2 0 (omega arith) (omega arith) (omega arith);
       weekMinutes = same 2 10 2 1 (omega arith) (omega arith) (omega arith);
     }
+
+-- plants with the same counts and the same numbers in all sections have the same file
+pub same-file : (p q : Plant) → shapeOfPlant p ≡ shapeOfPlant q → SamePlant p q → p .line .shutBefore ≡ q .line .shutBefore → plantFile p ≡ plantFile q
+unfolding plantFile plantBodies
+same-file p q counts same shut =
+    let n = p .products in
+    let c = p .customers in
+    let kind : p .kind ≡ q .kind = ap (λ (f : Shape). f .kind) counts in
+    let products : n ≡ q .products = ap (λ (f : Shape). f .products) counts in
+    let customers : c ≡ q .customers = ap (λ (f : Shape). f .customers) counts in
+    let weeks : p .weeks ≡ q .weeks = ap (λ (f : Shape). f .weeks) counts in
+    rw (
+      encode-ext 4 n _ _ (same .rate),
+      grid-ext 2 n n _ _ (same .changeoverMinutes),
+      grid-ext 4 n n _ _ (same .changeoverCents),
+      cube-ext 4 c n (p .weeks) _ _ (same .demand),
+      grid-ext 4 c n _ _ (same .price),
+      grid-ext 4 c n _ _ (same .backlogCost),
+      encode-ext 4 n _ _ (same .inventoryCost),
+      join-ext n _ _ (λ i l u. digits 4 (same .leastStorage i l u) ++ digits 4 (same .greatestStorage i l u)),
+      encode-ext 4 n _ _ (same .openingInventory),
+      grid-ext 4 c n _ _ (same .openingBacklog),
+      same .shortestRun,
+      same .weekMinutes,
+      same .mounted,
+      shut,
+      kind,
+      products,
+      customers,
+      weeks,
+    )

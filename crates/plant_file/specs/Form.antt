@@ -58,6 +58,10 @@ layoutBefore f others =
 abbrev pub plantLayout : Shape → List Layout
 plantLayout f = layoutBefore f (mountedLayout (f .kind))
 
+-- the lengths of sections 1 to 12, whether or not the kind has the last
+abbrev pub allLengths : Shape → List ℕ
+allLengths f = lengthsOf (layoutBefore f (layout 1 1 2 ∷ []))
+
 -- row 4: the length of each body
 abbrev pub plantLengths : Shape → List ℕ
 plantLengths f = lengthsOf (plantLayout f)

@@ -4,14 +4,14 @@ use Prim.Native.Nat.{ℕ}
 use mathlib.Core.Bool.{Bool, false, cond}
 use lib.Dec.{eqb}
 use Rattle.sections.specs.Layout.{Kind, contentsLength}
-use Rattle.sections.specs.Limits.{mostOpeningBacklog}
+use Rattle.sections.specs.Limits.{mostKindOneBacklog, mostOpeningBacklog}
 use Rattle.plant_file.specs.declared.PlantKind.{PlantKind}
 
 -- sections 1 to 11
 abbrev pub kindOne : PlantKind
-kindOne = record { number = 1; sections = 11; backlog = mostOpeningBacklog; diagonals = false }
+kindOne = record { number = 1; sections = 11; backlog = mostKindOneBacklog; diagonals = false }
 
--- "Plant files of kind 4 add section 12". The limit of the opening backlog and the diagonals are those of kind 1
+-- "Plant files of kind 4 add section 12"; "In kind 4 the opening owed may reach 1,600,000,000" (request 2026-03). The diagonals are those of kind 1
 abbrev pub kindFour : PlantKind
 kindFour = record { number = 4; sections = 12; backlog = mostOpeningBacklog; diagonals = false }
 

@@ -43,6 +43,10 @@ pub record Plant : Type 0 where
   pub shortestRun : ℕ
   pub weekMinutes : ℕ
 
+-- the kind, N, C and W
+abbrev pub shapeOfPlant : Plant → Shape
+shapeOfPlant p = record { kind = p .kind; products = p .products; customers = p .customers; weeks = p .weeks }
+
 -- ---- section k stands in place k - 1. What a section's number is stays shut above this crate; the records compute
 
 -- sections 2, 3 and 4: rate by product; changeover minutes, then cents, N by N, row from, column to

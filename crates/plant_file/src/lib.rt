@@ -1,10 +1,14 @@
-// Plant files, kinds 1 and 4: the rows of refusal, and the numbers of each section.
+// Plant files, kinds 1 and 4: the rows of refusal, the numbers of each section, and the writing of them; lists of rates.
 ghost use mathlib.Core.Path.{_≡_};
 ghost use mathlib.Core.Logic.{_⊎_};
 ghost use mathlib.Core.Bool.{true, cond};
-ghost use Prim.Native.Nat.{_+_, _*_, _/_, _%_, _≤_, _<_};
+ghost use mathlib.Core.List.{[], _++_};
+ghost use Prim.Native.Nat.{_+_, _*_, _/_, _%_, _^_, _≤_, _<_};
 ghost use lib.ListN.{length, getD};
+ghost use Rattle.mathematics.specs.Below.{allBelow, within};
+ghost use Rattle.numbers.specs.Number.{digits, encode, store};
 ghost use Rattle.contents.specs.Contents.{cell, sized};
+ghost use Rattle.contents.specs.File.{start, contentsBytes};
 ghost use Rattle.sections.specs.Section.{Holds, Laid};
 ghost use Rattle.sections.specs.declared.Form.the-variants.{Good};
 ghost use Rattle.sections.specs.Limits.{mostRate, mostChangeoverMinutes, mostChangeoverCents, mostDemand, mostUnitCost, mostStorage};
@@ -12,7 +16,9 @@ ghost use Rattle.sections.specs.Limits.{mostOpeningBacklog, nothingMounted, mos
 ghost use Rattle.plant_file.specs.Kinds.{plantKind, hasMounted, contentsOf};
 ghost use Rattle.plant_file.specs.Plant.{plantOf};
 ghost use Rattle.plant_file.specs.Rows.{DemandRow};
-ghost use Rattle.plant_file.specs.Form.{shapeOf, plantHeaded, laidOut, inLimits, plantLengths, plantInRange, plantForm};
+ghost use Rattle.plant_file.specs.Rates.{listedRate, ratesForm};
+ghost use Rattle.plant_file.specs.File.{plantBodies};
+ghost use Rattle.plant_file.specs.Form.{shapeOf, plantHeaded, laidOut, inLimits, allLengths, plantLengths, plantInRange, plantForm};
 ghost use Rattle.plant_file.specs.Form.{diagonalsInRange, mountedKnown, mountedInRange, lineInRange, marketInRange, storageInRange};
 ghost use Rattle.plant_file.specs.Form.{openingInRange, timeInRange};
 use contents::cell_in;
@@ -23,11 +29,14 @@ use contents::is_sized;
 use numbers::and;
 use numbers::as_usize;
 use numbers::inside;
+use numbers::read4;
 use numbers::wide;
+use numbers::write;
 use sections::Form;
 use sections::PairRow;
 use sections::Shape;
 use sections::area;
+use sections::copy_section;
 use sections::diagonal_zero;
 use sections::in_range;
 use sections::pair_number;
@@ -37,15 +46,15 @@ use sections::volume;
 const FIRST: u64 = 1;
 
 // The places of sections 1 to 12 in the contents.
-const SHAPE: usize = 0;
+pub const SHAPE: usize = 0;
 
-const RATE: usize = 1;
+pub const RATE: usize = 1;
 
 const CHANGEOVER_MINUTES: usize = 2;
 
 const CHANGEOVER_CENTS: usize = 3;
 
-const DEMAND: usize = 4;
+pub const DEMAND: usize = 4;
 
 const PRICE: usize = 5;
 
@@ -55,11 +64,11 @@ const INVENTORY_COST: usize = 7;
 
 const STORAGE: usize = 8;
 
-const OPENING: usize = 9;
+pub const OPENING: usize = 9;
 
 const TIME: usize = 10;
 
-const MOUNTED: usize = 11;
+pub const MOUNTED: usize = 11;
 
 // The limits of rows 3 and 5.
 const MOST_PRODUCTS: u64 = 16;
@@ -80,7 +89,9 @@ const MOST_UNIT_COST: u64 = 100000;
 
 const MOST_STORAGE: u64 = 4000000000;
 
-const MOST_OPENING_BACKLOG: u64 = 100000000;
+const MOST_KIND_ONE_BACKLOG: u64 = 100000000;
+
+pub const MOST_OPENING_BACKLOG: u64 = 1600000000;
 
 const MOST_WEEK_MINUTES: u64 = 10080;
 
@@ -111,7 +122,7 @@ fn plant_kind(kind: u8) -> PlantKind
     PlantKind {
         number: 1,
         sections: 11,
-        backlog: MOST_OPENING_BACKLOG,
+        backlog: MOST_KIND_ONE_BACKLOG,
         diagonals: false,
     }
 }
@@ -182,16 +193,15 @@ fn is_in_limits(f: Shape) -> bool
     )
 }
 
-// Row 4.
-fn has_lengths(s: &[u8], f: Shape) -> bool
-    requires { ⌜ contentsOf (f .kind) ≤ length (now s) ⌝ }
-    ensures { λ r. ⌜ r ≡ sized (now (s .entry)) (plantLengths f) ⌝ }
+// The lengths of the bodies of sections 1 to 12. A kind has the first of them, as many as it has sections.
+fn body_lengths(f: Shape) -> [u64; 12]
+    ensures { λ r. ⌜ r ≡ allLengths f ⌝ }
 {
     let n = wide(f.products);
     let nn = area(f.products, f.products) as u64;
     let cn = area(f.customers, f.products) as u64;
     let cnw = volume(f.customers, f.products, f.weeks) as u64;
-    let lengths = [
+    [
         3,
         4 * n,
         2 * nn,
@@ -203,13 +213,18 @@ fn has_lengths(s: &[u8], f: Shape) -> bool
         8 * n,
         4 * n + 4 * cn,
         4,
-    ];
-    let sized = is_sized(s, &lengths);
-    if has_mounted(f) {
-        let e = entry_in(s, MOUNTED);
-        return and(sized, e.length == 2);
-    }
-    sized
+        2,
+    ]
+}
+
+// Row 4.
+fn has_lengths(s: &[u8], f: Shape) -> bool
+    requires { ⌜ contentsOf (f .kind) ≤ length (now s) ⌝ }
+    ensures { λ r. ⌜ r ≡ sized (now (s .entry)) (plantLengths f) ⌝ }
+{
+    let k = plant_kind(f.kind);
+    let lengths = body_lengths(f);
+    is_sized(s, &lengths[..k.sections])
 }
 
 // Row 5, the diagonals of sections 3 and 4.
@@ -520,4 +535,124 @@ pub fn pair_opening_backlog(s: &[u8], f: Shape, pair: usize) -> u64
     ensures { λ r. ⌜ (r ≡ plantOf f (now (s .entry)) .openingBacklog (pair / f .products) (pair % f .products)) × (r ≤ mostOpeningBacklog) ⌝ }
 {
     cell_in(s, OPENING, 4, as_usize(f.products) + pair)
+}
+
+// ---- A list of rates beside a plant file: a number of 4 bytes for each product.
+
+// Rate i of a list.
+pub fn listed_rate(rates: &[u8], i: usize) -> u64
+    requires { ⌜ 4 * i + 4 ≤ length (now rates) ⌝ }
+    ensures { λ r. ⌜ r ≡ listedRate (now (rates .entry)) i ⌝ }
+{
+    read4(rates, 4 * i)
+}
+
+// Whether the first n rates of a list are within their range.
+fn are_rates_in_range(rates: &[u8], n: usize) -> bool
+    requires { ⌜ 4 * n ≤ length (now rates) ⌝ }
+    ensures { λ r. ⌜ r ≡ allBelow n (λ i. within 1 mostRate (listedRate (now (rates .entry)) i)) ⌝ }
+{
+    let mut ok = true;
+    let mut i = 0;
+    while i < n {
+        ok = and(ok, inside(1, MOST_RATE, listed_rate(rates, i)));
+        i += 1;
+    }
+    ok
+}
+
+// A list of N rates, or the number of its refusal.
+pub fn rates_form(rates: &[u8], f: Shape) -> Form
+    ensures { λ r. ⌜ r ≡ ratesForm f (now (rates .entry)) ⌝ }
+{
+    let n = as_usize(f.products);
+    if rates.len() != 4 * n {
+        return Form::Refused(4);
+    }
+    if !are_rates_in_range(rates, n) {
+        return Form::Refused(5);
+    }
+    Form::Good(f)
+}
+
+// ---- The writing of a plant file: its contents, then each body at the start of its own stretch.
+
+// How many sections a kind has.
+pub fn section_count(f: Shape) -> usize
+    ensures { λ r. ⌜ (r ≡ plantKind (f .kind) .sections) × (r ≤ 12) ⌝ }
+{
+    let k = plant_kind(f.kind);
+    k.sections
+}
+
+// Where the body in a place begins; past the last, where the file ends.
+pub fn section_start(f: Shape, place: usize) -> usize
+    requires { ⌜ place ≤ plantKind (f .kind) .sections ⌝ }
+    ensures { λ r. ⌜ (r ≡ start (plantLengths f) place) × (r < 2 ^ 32) ⌝ }
+{
+    let lengths = body_lengths(f);
+    let mut at = 2 + 9 * section_count(f);
+    let mut i = 0;
+    while i < place {
+        at += lengths[i] as usize;
+        i += 1;
+    }
+    at
+}
+
+// The length of a plant file.
+pub fn plant_length(f: Shape) -> usize
+    ensures { λ r. ⌜ (r ≡ start (plantLengths f) (plantKind (f .kind) .sections)) × (r < 2 ^ 32) ⌝ }
+{
+    section_start(f, section_count(f))
+}
+
+// Stores the contents of a plant file.
+pub fn write_contents(out: &mut [u8], f: Shape)
+    requires { ⌜ contentsOf (f .kind) ≤ length (now out) ⌝ }
+    ensures { λ _. ⌜ now (out .exit) ≡ store (now (out .entry)) 0 (contentsBytes (plantKind (f .kind) .number) 1 (plantLengths f)) ⌝ }
+{
+    let k = plant_kind(f.kind);
+    let lengths = body_lengths(f);
+    contents::write_contents(out, k.number, FIRST, &lengths[..k.sections]);
+}
+
+// Stores section 1.
+pub fn write_shape(out: &mut [u8], f: Shape)
+    requires { ⌜ 3 ≤ length (now out) ⌝ }
+    ensures { λ _. ⌜ now (out .exit) ≡ store (now (out .entry)) 0 (digits 1 (f .products) ++ (digits 1 (f .customers) ++ digits 1 (f .weeks))) ⌝ }
+{
+    write(out, 0, 1, wide(f.products));
+    write(out, 1, 1, wide(f.customers));
+    write(out, 2, 1, wide(f.weeks));
+}
+
+// Stores section 2, of a list's first n rates.
+pub fn write_rates(out: &mut [u8], rates: &[u8], n: usize)
+    requires { ⌜ (4 * n ≤ length (now rates)) × (4 * n ≤ length (now out)) ⌝ }
+    ensures { λ _. ⌜ now (out .exit) ≡ store (now (out .entry)) 0 (encode 4 n (listedRate (now (rates .entry)))) ⌝ }
+{
+    let mut i = 0;
+    while i < n {
+        write(out, 4 * i, 4, listed_rate(rates, i));
+        i += 1;
+    }
+}
+
+// Stores section 12.
+pub fn write_mounted(out: &mut [u8], product: u64, shut: u64)
+    requires { ⌜ 2 ≤ length (now out) ⌝ }
+    ensures { λ _. ⌜ now (out .exit) ≡ store (now (out .entry)) 0 (digits 1 product ++ digits 1 shut) ⌝ }
+{
+    write(out, 0, 1, product);
+    write(out, 1, 1, shut);
+}
+
+// Stores the body in a place as a plant file has it.
+pub fn copy_body(out: &mut [u8], s: &[u8], f: Shape, place: usize)
+    requires { ⌜ (plantForm (now s) ≡ Good f) × (place < plantKind (f .kind) .sections) × (getD (plantLengths f) place 0 ≤ length (now out)) ⌝ }
+    ensures { λ _. ⌜ now (out .exit) ≡ store (now (out .entry)) 0 (getD (plantBodies (plantOf f (now (s .entry)))) place []) ⌝ }
+{
+    let e = entry_in(s, place);
+    copy_section(out, s, place, 1, e.length as usize);
 }

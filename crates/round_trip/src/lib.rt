@@ -1,4 +1,4 @@
-// A client of the three calls: a plan that passes, its slots, and the plan back from them.
+// A client of checking, slot return and plan writing: a plan that passes, its slots, and the plan back from them.
 ghost use mathlib.Core.Path.{_≡_};
 ghost use Rattle.calls.specs.Check.{checkOf};
 ghost use Rattle.calls.specs.Answer.{slotAnswer, writtenIn, outputAfter};

@@ -111,7 +111,7 @@ fn marked_once(plan: &[u8], f: Shape, table: ProductTable, week: usize) -> bool
 }
 
 // Whether a week is shut: none of E, F and L.
-fn is_shut(plan: &[u8], f: Shape, week: usize) -> bool
+pub fn is_shut(plan: &[u8], f: Shape, week: usize) -> bool
     requires { ⌜ (planForm f (now plan) ≡ Good f) × (week < f .weeks) ⌝ }
     ensures { λ r. ⌜ r ≡ shut (f .products) (weekOf (planOf f (now (plan .entry)) .line) week) ⌝ }
 {

@@ -1,11 +1,15 @@
 -- The bytes of a table: how many there are, and that they follow from its numbers. Assumes nothing.
-use Prim.Native.Nat.{ℕ, _*_, _<_}
+use Prim.Native.Nat.{ℕ, _+_, _*_, _-_, _≤_, _<_}
 use mathlib.Core.Path.{_≡_, ap, _∙_, sym}
-use native.Mathlib.Nat.{mul-left-comm, mul-assoc}
+use mathlib.Core.List.{List}
+use native.Mathlib.Nat.{mul-comm, mul-left-comm, mul-assoc}
 use lib.ListN.{length}
+use borrow.Rule.Slice.PartMut.{midOf, putMid}
+use Rattle.mathematics.specs.Below.{joinBelow}
 use Rattle.mathematics.proofs.Join.{even-length, join-ext}
-use Rattle.numbers.specs.Number.{Bytes, encode}
+use Rattle.numbers.specs.Number.{Bytes, encode, store}
 use Rattle.numbers.proofs.Number.{encode-length, encode-ext}
+use Rattle.numbers.proofs.Store.{part-store, store-join}
 use Rattle.numbers.proofs.ByteLists.{bytes-join, bytes-encode}
 use Rattle.sections.specs.Section.{grid, cube}
 
@@ -35,3 +39,18 @@ grid-bytes k m n f = bytes-join m (λ i. encode k n (f i)) (λ i. bytes-encode k
 pub cube-bytes : (k l m n : ℕ) (f : ℕ → ℕ → ℕ → ℕ) → Bytes (cube k l m n f)
 unfolding cube
 cube-bytes k l m n f = bytes-join l (λ h. grid k m n (f h)) (λ h. grid-bytes k m n (f h))
+
+-- ---- a table stored row by row
+-- rows of one size
+pub rows-length : (k n r : ℕ) (g : ℕ → ℕ → ℕ) → length (joinBelow r (λ q. encode k n (g q))) ≡ r * (k * n)
+rows-length k n r g = even-length r (k * n) (λ q. encode k n (g q)) (λ q. encode-length k n (g q))
+
+-- the next row, stored in the stretch that is lent
+pub row-stored : (k n : ℕ) (g : ℕ → ℕ → ℕ) (s out new : List ℕ) (r p : ℕ) → out ≡ store s 0 (joinBelow r (λ q. encode k n (g q)))
+    → p ≡ k * n * r → p ≤ length out → new ≡ store (midOf p (length out - p) out) 0 (encode k n (g r))
+    → putMid p (length out - p) out new ≡ store s 0 (joinBelow (r + 1) (λ q. encode k n (g q)))
+row-stored k n g s out new r p e d l h =
+    let bytes : ℕ → List ℕ = λ q. encode k n (g q) in
+    ap (putMid p (length out - p) out) h
+    ∙ (part-store out p (bytes r) l
+    ∙ (ap (λ (x : List ℕ). store x p (bytes r)) e ∙ store-join r bytes s p (rows-length k n r g ∙ (mul-comm r (k * n) ∙ sym d))))

@@ -5,6 +5,7 @@ use native.Mathlib.Omega.{arith}
 use native.Mathlib.Nat.{mul-le-mul-left, mul-le-mul}
 use Rattle.mathematics.proofs.Join.{table-below}
 use Rattle.numbers.proofs.Number.{room, step}
+use Rattle.sections.specs.declared.Shape.{Shape}
 
 -- number from + j of those of k bytes, and the next
 pub place-first : (k from m : ℕ) → k * from ≤ k * (from + m)
@@ -19,6 +20,10 @@ place-next k from j = let e : from + (j + 1) ≡ from + j + 1 = omega arith in a
 -- a place on the diagonal of a table of n by n
 pub diagonal-room : (k : ℕ) {j n : ℕ} → j < n → k * (j * n + j) + k ≤ k * (n * n)
 diagonal-room k {j} {n} h = room k {i = j * n + j} {m = n * n} (table-below h h)
+
+-- a shape whose counts have a byte each
+abbrev pub Small : Shape → Type 0
+Small f = (f .products < 256) × (f .customers < 256) × (f .weeks < 256)
 
 -- a number below 256 is at most 255
 pub byte-most : {a : ℕ} → a < 256 → a ≤ 255

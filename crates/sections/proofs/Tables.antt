@@ -22,13 +22,18 @@ unfolding cube grid
 cube-flat k l m n f = join-rows l m (λ q. joinBelow n (λ j. digits k (f (q * n + j)))) ∙ join-rows (l * m) n (λ q. digits k (f q))
 
 -- ---- and back
-grid-encode : (k m n : ℕ) (f : ℕ → ℕ → ℕ) → grid k m n f ≡ encode k (m * n) (λ q. f (q / n) (q % n))
+pub grid-encode : (k m n : ℕ) (f : ℕ → ℕ → ℕ) → grid k m n f ≡ encode k (m * n) (λ q. f (q / n) (q % n))
 unfolding grid
 grid-encode k m n f = join-table m n (λ i j. digits k (f i j))
 
 cube-encode : (k l m n : ℕ) (f : ℕ → ℕ → ℕ → ℕ) → cube k l m n f ≡ encode k (l * m * n) (λ q. f (q / n / m) (q / n % m) (q % n))
 unfolding cube grid
 cube-encode k l m n f = join-table l m (λ h i. encode k n (f h i)) ∙ join-table (l * m) n (λ q j. digits k (f (q / m) (q % m) j))
+
+-- by row and column of the first two indices
+pub cube-rows : (k l m n : ℕ) (t : ℕ → ℕ → ℕ → ℕ) → cube k l m n t ≡ joinBelow (l * m) (λ r. encode k n (t (r / m) (r % m)))
+unfolding cube grid
+cube-rows k l m n t = join-table l m (λ h i. encode k n (t h i))
 
 pub cube-below : {h i j l m n : ℕ} → h < l → i < m → j < n → (h * m + i) * n + j < l * m * n
 cube-below a b d = table-below (table-below a b) d

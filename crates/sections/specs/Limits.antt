@@ -34,9 +34,12 @@ mostUnitCost = 100000
 abbrev pub mostStorage : ℕ
 mostStorage = 4000000000
 
--- grams owed before the first week
+-- grams owed before the first week: in kind 1, and in kind 4, "may reach 1,600,000,000" (request 2026-03), the wider
+abbrev pub mostKindOneBacklog : ℕ
+mostKindOneBacklog = 100000000
+
 abbrev pub mostOpeningBacklog : ℕ
-mostOpeningBacklog = 100000000
+mostOpeningBacklog = 1600000000
 
 -- "255 for none": no product is mounted before the first week (request 2026-02)
 abbrev pub nothingMounted : ℕ

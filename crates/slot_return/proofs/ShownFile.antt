@@ -1,7 +1,7 @@
 -- The file of the slots that a plan shows: the bytes of its bodies, from the plan's numbers, and their lengths. Assumes nothing.
 use Prim.Native.Nat.{ℕ, zero, suc, _+_, _-_, _*_, _<_, _≤_}
 use mathlib.Core.Path.{_≡_, refl, sym, ap, _∙_}
-use mathlib.Core.List.{List, [], _∷_, _++_, map, append-nil}
+use mathlib.Core.List.{List, [], _∷_, _++_, map}
 use native.Mathlib.Omega.{arith}
 use native.Mathlib.Nat.{mul-comm}
 use lib.ListN.{length}
@@ -13,9 +13,8 @@ use Rattle.mathematics.proofs.Join.{join-first, join-length, even-length}
 use Rattle.mathematics.proofs.OrderTheorem.{order-length}
 use Rattle.numbers.specs.Number.{digits, encode, store}
 use Rattle.numbers.proofs.Number.{encode-ext}
-use Rattle.numbers.proofs.Store.{part-store}
 use Rattle.contents.specs.File.{start, contentsBytes}
-use Rattle.contents.proofs.FileStored.{firstBodies, body-stored, all-stored}
+use Rattle.contents.proofs.FileStored.{firstBodies, all-stored, contents-first, stretch-stored}
 use Rattle.contents.proofs.FileWritten.{file-length as laid-length}
 use Rattle.sections.specs.Section.{cube}
 use Rattle.sections.specs.declared.Shape.{Shape}
@@ -104,8 +103,7 @@ module _ (f : Shape) (s : List ℕ) where
     listed = lengths ∙ ap (slotLengths f) (sym t)
 
     pub contents-stored : contentsBytes 3 41 (slotLengths f total) ≡ firstOf 0
-    unfolding firstBodies
-    contents-stored = ap (contentsBytes 3 41) (sym listed) ∙ sym (append-nil _)
+    contents-stored = contents-first 3 41 (slotBodies f (shownIn f s)) (slotLengths f total) listed
 
     -- body i, stored in the stretch that is lent from its start on
     pub body-next : (i at : ℕ) (first out lent : List ℕ) → out ≡ store first 0 (firstOf i) → at ≡ start (slotLengths f total) i
@@ -113,8 +111,7 @@ module _ (f : Shape) (s : List ℕ) where
         → putMid at (length out - at) out lent ≡ store first 0 (firstOf (i + 1))
     body-next i at first out lent o a l e =
         ap (putMid at (length out - at) out) e
-        ∙ (part-store out at (bodyOf f s i) l
-        ∙ (rw (o, a, ← listed) (body-stored 3 41 (slotBodies f (shownIn f s)) first i)))
+        ∙ stretch-stored 3 41 (slotBodies f (shownIn f s)) (slotLengths f total) listed first out i at o a l
 
 -- where the bodies begin
 pub starts : (f : Shape) (total : ℕ)

@@ -1,4 +1,4 @@
-//! What the fuzzer gives and takes: three files in one input, and memory with
+//! What the fuzzer gives and takes: all that the calls read in one input, and memory with
 //! inaccessible pages around it.
 
 pub mod guarded;

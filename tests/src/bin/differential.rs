@@ -1,10 +1,10 @@
 //! Compares the library with the second implementation on random files: `differential SEED CASES`. It prints how often each call
-//! returned each number. At a difference it writes the two files into the current folder and ends with status 1.
+//! returned each number. At a difference it writes the files into the current folder and ends with status 1.
 
 use std::process::ExitCode;
 use std::{env, fs, io};
 
-use doxkarin_tests::differential::{self, Difference};
+use doxkarin_tests::differential::{self, Input, Rolling};
 
 fn main() -> ExitCode {
     let numbers: Option<Vec<u64>> =
@@ -20,8 +20,8 @@ fn main() -> ExitCode {
         }
         Err(difference) => {
             println!("{difference}");
-            match write(&difference) {
-                Ok(()) => println!("difference-plant.bin and difference-input.bin are its files"),
+            match write(&difference.input) {
+                Ok(names) => println!("its files: {}", names.join(", ")),
                 Err(error) => eprintln!("differential: {error}"),
             }
             ExitCode::FAILURE
@@ -29,7 +29,18 @@ fn main() -> ExitCode {
     }
 }
 
-fn write(difference: &Difference) -> io::Result<()> {
-    fs::write("difference-plant.bin", &difference.plant)?;
-    fs::write("difference-input.bin", &difference.input)
+/// Writes what a call reads: the names of its files. That of k has it in decimal.
+fn write(input: &Input) -> io::Result<Vec<&'static str>> {
+    let mut files = vec![
+        ("difference-plant.bin", input.plant.to_vec()),
+        ("difference-input.bin", input.file.to_vec()),
+    ];
+    if let Some(Rolling { k, rates }) = &input.rolling {
+        files.push(("difference-rates.bin", rates.to_vec()));
+        files.push(("difference-k.txt", k.to_string().into_bytes()));
+    }
+    for (name, bytes) in &files {
+        fs::write(name, bytes)?;
+    }
+    Ok(files.iter().map(|&(name, _)| name).collect())
 }

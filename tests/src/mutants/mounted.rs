@@ -4,6 +4,7 @@
 use super::shut_weeks::marked;
 use super::slots::end_this_week;
 use crate::following;
+use crate::forms::{at_most, most_opening_backlog};
 use crate::layout::Parts;
 use crate::model::{Kind, OpeningLine, Plan, Plant, Slots};
 use crate::random::Random;
@@ -33,6 +34,14 @@ pub(super) fn change_line(random: &mut Random, plant: &mut Plant) {
     match &mut plant.opening_line {
         Some(line) if random.one_in(3) => line.was_shut ^= 1,
         line => *line = random.pick(&[None, Some(any), Some(any)]),
+    }
+    keep_backlog(plant);
+}
+
+/// Leaves a plant with section 12 if it owes too much for kind 1.
+fn keep_backlog(plant: &mut Plant) {
+    if !at_most(&plant.opening_backlog, most_opening_backlog(plant.kind())) {
+        plant.opening_line = Some(OpeningLine { mounted: 255, was_shut: 0 });
     }
 }
 
@@ -129,6 +138,7 @@ pub(super) fn open_bare_line(
     if plant.mounted().is_some() {
         let bare = OpeningLine { mounted: 255, was_shut: random.below(2) as u8 };
         plant.opening_line = random.pick(&[None, Some(bare)]);
+        keep_backlog(plant);
         *plan = following::plan(plant, slots);
     }
     let producing = (0..sizes.weeks).find(|&week| !plan.is_shut(sizes, week));

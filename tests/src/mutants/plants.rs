@@ -3,10 +3,11 @@
 
 use super::mounted::{change_line, exceed_line};
 use super::PlantChange;
+use crate::forms::most_opening_backlog;
 use crate::model::{Plant, Sizes, Storage};
 use crate::random::Random;
 
-/// Changes after which a number of the plant is out of its range.
+/// Changes after which a number of the plant is out of its range, or at its end.
 pub const PLANT_CHANGES: [PlantChange; 5] =
     [exceed_range, exceed_range, exceed_line, change_sizes, break_diagonal];
 
@@ -16,6 +17,7 @@ pub const GROUND_CHANGES: [PlantChange; 4] =
 
 /// The tables of a plant with the range of their numbers.
 fn plant_tables(plant: &mut Plant) -> [(&mut [u32], u32, u32); 8] {
+    let most_backlog = most_opening_backlog(plant.kind());
     [
         (&mut plant.rates, 1, 100_000),
         (&mut plant.changeover_cents, 0, 1_000_000),
@@ -24,13 +26,13 @@ fn plant_tables(plant: &mut Plant) -> [(&mut [u32], u32, u32); 8] {
         (&mut plant.backlog_costs, 0, 100_000),
         (&mut plant.inventory_costs, 0, 100_000),
         (&mut plant.opening_inventory, 0, 4_000_000_000),
-        (&mut plant.opening_backlog, 0, 100_000_000),
+        (&mut plant.opening_backlog, 0, most_backlog),
     ]
 }
 
 fn exceed_range(random: &mut Random, plant: &mut Plant) {
     let product = random.below(plant.sizes.products);
-    match random.below(14) {
+    match random.below(15) {
         8 => {
             let place = random.below(plant.changeover_minutes.len());
             plant.changeover_minutes[place] = random.pick(&[10_081, u16::MAX]);
@@ -42,12 +44,20 @@ fn exceed_range(random: &mut Random, plant: &mut Plant) {
         11 => plant.shortest_run = random.pick(&[0, plant.week_minutes + 1, u16::MAX]),
         12 => plant.week_minutes = random.pick(&[0, plant.shortest_run - 1, 10_081, u16::MAX]),
         13 => plant.rates[product] = 0,
+        14 => exceed_backlog(random, plant),
         table => {
             let mut tables = plant_tables(plant);
             let (table, _, greatest) = &mut tables[table];
             table[random.below(table.len())] = random.pick(&[*greatest + 1, u32::MAX]);
         }
     }
+}
+
+/// What is owed before week 0 at or beyond the limits of both kinds, in either.
+fn exceed_backlog(random: &mut Random, plant: &mut Plant) {
+    let place = random.below(plant.opening_backlog.len());
+    plant.opening_backlog[place] =
+        random.pick(&[100_000_000, 100_000_001, 1_600_000_000, 1_600_000_001]);
 }
 
 fn break_diagonal(random: &mut Random, plant: &mut Plant) {

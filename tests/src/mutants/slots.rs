@@ -199,7 +199,7 @@ pub(super) fn shut_week(random: &mut Random, plant: &mut Plant, slots: &mut Slot
 }
 
 /// A slot of any product.
-fn new_slot(random: &mut Random, plant: &Plant) -> Slot {
+pub(super) fn new_slot(random: &mut Random, plant: &Plant) -> Slot {
     let product = random.below(plant.sizes.products) as u8;
     Slot { product, minutes: random.pick(&[plant.shortest_run, plant.week_minutes]) }
 }

@@ -8,11 +8,12 @@ use lib.ListN.{length, length-take, length-drop}
 use Rattle.mathematics.specs.Below.{joinBelow}
 use Rattle.numbers.specs.Number.{encode, store}
 use Rattle.numbers.proofs.Number.{step, room}
+use Rattle.sections.proofs.Bodies.{row-stored}
 use Rattle.plant_file.specs.Plant.{plantOf}
 use Rattle.slot_file.specs.Slots.{slotsOf}
 use Rattle.model.specs.RunTables.{runTables}
 use Rattle.plan_writing.specs.Bodies.{sectionOf, rowIn}
-use Rattle.plan_writing.proofs.Bodies.{body-is, row-stored}
+use Rattle.plan_writing.proofs.Bodies.{body-is}
 use Rattle.plan_writing.proofs.write_backlog.Statement.{statement}
 use Rattle.plan_writing.proofs.write_backlog.Tie as tie
 

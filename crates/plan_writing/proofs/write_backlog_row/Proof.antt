@@ -8,7 +8,7 @@ use Prim.Native.Nat.{ℕ, suc, _+_, _*_, _/_, _%_, _-_, _≤_, _<_}
 use lib.ListN.{length}
 use Rattle.numbers.specs.Number.{digits, encode, store}
 use Rattle.numbers.proofs.Number.{room, store-more}
-use Rattle.sections.specs.Limits.{mostDemand}
+use Rattle.sections.specs.Limits.{mostDemand, mostOpeningBacklog}
 use Rattle.plant_file.specs.Plant.{Plant, plantOf}
 use Rattle.slot_file.specs.Slots.{Slots, slotsOf}
 use Rattle.machine.specs.State.{backlogOf}
@@ -22,7 +22,7 @@ abbrev Inv-loop : tie.InvT-loop
 Inv-loop out₀ plant slots f pair weeks demand sales backlog₀ week₀ out backlog week =
     (week ≤ weeks) × (length out ≡ length out₀)
     × (backlog ≡ backlogOf (f .products) (after (plantOf f plant) (slotsOf f slots) week) (pair / f .products) (pair % f .products))
-    × (backlog ≤ mostDemand * (week + 1))
+    × (backlog ≤ mostOpeningBacklog + mostDemand * week)
     × (out ≡ store out₀ 0 (encode 4 week (runTables (plantOf f plant) (slotsOf f slots) .backlog (pair / f .products) (pair % f .products))))
 
 abbrev μ-loop : tie.MeasureT-loop

@@ -8,13 +8,14 @@ use Prim.Native.Nat.{ℕ, _≤_, _-_, _+_}
 use lib.ListN.{length, getD}
 use Rattle.numbers.specs.Number.{store}
 use Rattle.contents.proofs.Entries.{start-zero, start-next, start-below}
-use Rattle.contents.proofs.FileStored.{firstBodies}
+use Rattle.contents.proofs.FileStored.{firstBodies, contents-first, stretch-stored}
 use Rattle.plant_file.specs.Plant.{plantOf}
 use Rattle.plan_file.specs.Form.{planLengths}
 use Rattle.plan_file.specs.File.{planBodies}
+use Rattle.plan_file.proofs.FileIsPlan.{bodies-lengths}
 use Rattle.slot_file.specs.Slots.{slotsOf}
 use Rattle.model.specs.RunTables.{runTables}
-use Rattle.plan_writing.proofs.Bodies.{contents-first, file-last, stretch-stored}
+use Rattle.plan_writing.proofs.Bodies.{file-last}
 use Rattle.plan_writing.proofs.write_file.Statement.{statement}
 use Rattle.plan_writing.proofs.write_file.Tie as tie
 
@@ -61,7 +62,8 @@ loop-again c =
       search needs,
       search needs,
       λ s e. ap (putMid at (length out - at) out) (c .before .before .write-body .ensures)
-          ∙ stretch-stored (a .f) x s out (b .loop .place) at (b .loop .inv .2 s e) (c .before .before .before .before .section-start .ensures .0)
+          ∙ stretch-stored 2 21 (planBodies (a .f) x) (planLengths (a .f)) (bodies-lengths (a .f) x) s out (b .loop .place) at (b .loop .inv .2 s e)
+          (c .before .before .before .before .section-start .ensures .0)
           (omega (arith, inside (c .before .before .before .before))),
     )
 
@@ -72,7 +74,9 @@ returns c =
     let x = runTables (plantOf (a .f) (a .plant .now)) (slotsOf (a .f) (a .slots .now)) in
     let out = a .out .now in
     let e : b .loop .place ≡ 12 = omega arith in
-    b .loop .inv .2 out (b .before .before .before .write-contents .ensures ∙ ap (store out 0) (contents-first (a .f) x))
+    b .loop .inv .2 out
+    (b .before .before .before .write-contents .ensures
+    ∙ ap (store out 0) (contents-first 2 21 (planBodies (a .f) x) (planLengths (a .f)) (bodies-lengths (a .f) x)))
     ∙ ap (store out 0) (ap (firstBodies 2 21 (planBodies (a .f) x)) e ∙ file-last (a .f) x)
 
 pub write-file-spec : {M : Type 1} → statement M

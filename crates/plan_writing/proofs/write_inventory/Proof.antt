@@ -11,6 +11,7 @@ use Rattle.mathematics.specs.Below.{joinBelow}
 use Rattle.numbers.specs.Number.{encode, store}
 use Rattle.numbers.proofs.Number.{step, room, encode-ext}
 use Rattle.sections.specs.Section.{grid}
+use Rattle.sections.proofs.Bodies.{row-stored}
 use Rattle.plant_file.specs.Plant.{Plant, plantOf}
 use Rattle.plan_file.specs.Plan.{Plan}
 use Rattle.plan_file.specs.File.{planBodies}
@@ -22,7 +23,6 @@ use Rattle.model.specs.RunTables.{runTables}
 use Rattle.plan_writing.specs.Ran.{WeekRow}
 use Rattle.plan_writing.specs.Bodies.{Shows, madeIn, soldIn}
 use Rattle.plan_writing.proofs.RunWeeks.{few-products, week-row, inventory-first, inventory-next, inventory-covers, inventory-limit}
-use Rattle.plan_writing.proofs.Bodies.{row-stored}
 use Rattle.plan_writing.proofs.write_inventory.Statement.{statement}
 use Rattle.plan_writing.proofs.write_inventory.Tie as tie
 

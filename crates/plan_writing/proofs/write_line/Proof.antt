@@ -10,6 +10,7 @@ use Rattle.mathematics.specs.Below.{joinBelow}
 use Rattle.numbers.specs.Number.{encode, store}
 use Rattle.numbers.proofs.Number.{step, room}
 use Rattle.sections.specs.declared.Layout.{Layout}
+use Rattle.sections.proofs.Bodies.{rows-length, row-stored}
 use Rattle.plant_file.specs.Plant.{Plant, plantOf}
 use Rattle.plan_file.specs.Plan.{Plan}
 use Rattle.slot_file.specs.Slots.{Slots, slotsOf, orderOfSlots}
@@ -21,7 +22,7 @@ use Rattle.plan_writing.specs.Ran.{WeekRow, Cleared}
 use Rattle.plan_writing.specs.Bodies.{sectionOf, rowIn}
 use Rattle.plan_writing.proofs.RunWeeks.{few-products, week-row}
 use Rattle.plan_writing.proofs.Zeros.{cleared-as, over-zeros, rest-cleared}
-use Rattle.plan_writing.proofs.Bodies.{body-is, body-length, rows-length, row-stored, week-rows}
+use Rattle.plan_writing.proofs.Bodies.{body-is, body-length, week-rows}
 use Rattle.plan_writing.proofs.write_line.Statement.{statement}
 use Rattle.plan_writing.proofs.write_line.Tie as tie
 

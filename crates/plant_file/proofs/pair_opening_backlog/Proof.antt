@@ -7,6 +7,7 @@ use Rattle.contents.specs.Contents.{Inside}
 use Rattle.plant_file.specs.Plant.{openingBacklogIn}
 use Rattle.mathematics.proofs.Pairs.{pair-of}
 use Rattle.plant_file.proofs.PlantInRange.{plant-ranges}
+use Rattle.plant_file.proofs.PlantKinds.{kind-backlog}
 use Rattle.plant_file.proofs.PlantAccess.{held4, answer}
 use Rattle.plant_file.proofs.pair_opening_backlog.Statement.{statement}
 use Rattle.plant_file.proofs.pair_opening_backlog.Tie as tie
@@ -20,8 +21,9 @@ returns : tie.Need-returns
 unfolding openingBacklogIn
 returns c =
     let p = pair-of _ _ _ (c .before .before .before .pre .1) in
+    let most = plant-ranges _ _ (c .before .before .before .pre .0) .opening-backlog-most _ _ (p .row) (p .column) in
     answer (c .cell-in .ensures ∙ rw (c .before .as-usize .ensures .0, p .number))
-    (plant-ranges _ _ (c .before .before .before .pre .0) .opening-backlog-most _ _ (p .row) (p .column))
+    (omega (arith, most, kind-backlog (c .before .before .before .args .f .kind)))
 
 pub pair-opening-backlog-spec : {M : Type 1} → statement M
 pair-opening-backlog-spec =

@@ -1,4 +1,4 @@
--- `round_trip::round_trip` meets its contract, by the contracts of the three calls and the demands. Assumes nothing.
+-- `round_trip::round_trip` meets its contract, by the contracts of checking, slot return and plan writing and the demands. Assumes nothing.
 use borrow.Author.Needs.{needs}
 use Prim.Native.Nat.{ℕ, _≤_}
 use mathlib.Core.Path.{_≡_, sym, ap, _∙_}

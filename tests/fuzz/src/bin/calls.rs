@@ -1,4 +1,4 @@
-//! The fuzzer's program: the three calls on any bytes, each compared with the second implementation, whose branches guide the
+//! The fuzzer's program: the four calls on any bytes, each compared with the second implementation, whose branches guide the
 //! fuzzer. Every file and output stands between inaccessible pages, at either end, and files cannot be written.
 
 #![no_main]
@@ -10,7 +10,8 @@ use doxkarin_fuzz::guarded::{Guarded, Side};
 use doxkarin_fuzz::input::Files;
 use doxkarin_tests::model::Refusal;
 use doxkarin_tests::random::Random;
-use doxkarin_tests::{forms, library, mutants, reference};
+use doxkarin_tests::rolls::{any_k, any_rates};
+use doxkarin_tests::{following, forms, library, mutants, reference};
 
 extern "C" {
     fn LLVMFuzzerMutate(data: *mut u8, size: usize, most: usize) -> usize;
@@ -20,8 +21,8 @@ extern "C" {
 const ROOM: usize = 1 << 17;
 
 thread_local! {
-    /// For the plant, the plan, the slots and an output.
-    static MEMORY: RefCell<[Guarded; 4]> = RefCell::new([0; 4].map(|_| Guarded::new(ROOM)));
+    /// For the plant, the plan, the slots, the list of rates and an output.
+    static MEMORY: RefCell<[Guarded; 5]> = RefCell::new([0; 5].map(|_| Guarded::new(ROOM)));
 }
 
 #[no_mangle]
@@ -41,11 +42,12 @@ extern "C" fn LLVMFuzzerTestOneInput(data: *const u8, size: usize) -> i32 {
 /// What a call leaves in the caller's variable.
 const UNTOUCHED: u64 = 0x0123_4567_89ab_cdef;
 
-fn compare(memory: &mut [Guarded; 4], files: &Files, side: Side) {
-    let [plant, plan, slots, output] = memory;
+fn compare(memory: &mut [Guarded; 5], files: &Files, side: Side) {
+    let [plant, plan, slots, rates, output] = memory;
     let plant = plant.read_only(&files.plant, side);
     let plan = plan.read_only(&files.plan, side);
     let slots = slots.read_only(&files.slots, side);
+    let rates = rates.read_only(&files.rates, side);
 
     let mut profit = UNTOUCHED as i64;
     let number = library::check_into(plant, plan, &mut profit);
@@ -61,6 +63,10 @@ fn compare(memory: &mut [Guarded; 4], files: &Files, side: Side) {
     let file = reference::plan_file(plant, slots);
     compare_output(output, side, &file, |out, length| {
         library::plan_into(plant, slots, out, length)
+    });
+    let file = reference::rolled_plant_file(plant, plan, files.k, rates);
+    compare_output(output, side, &file, |out, length| {
+        library::roll_into(plant, plan, files.k, rates, out, length)
     });
 }
 
@@ -115,9 +121,18 @@ fn changed(random: &mut Random, input: &[u8]) -> Option<Vec<u8>> {
     let mut plant = forms::read_plant(&files.plant).ok()?;
     let slots = forms::read_slots(&plant, &files.slots);
     let plan = forms::read_plan(&plant, &files.plan);
-    match random.below(4) {
+    match random.below(8) {
         0 => random.pick(&mutants::GROUND_CHANGES)(random, &mut plant),
-        1 => {
+        1 => random.pick(&mutants::PLANT_CHANGES)(random, &mut plant),
+        2 => files.k = any_k(random, plant.sizes.weeks),
+        3 => files.rates = any_rates(random, &plant),
+        4 => {
+            let mut slots = slots.ok()?;
+            files.k = random.pick(&mutants::ROLL_CHANGES)(random, &mut plant, &mut slots);
+            files.plan = following::plan(&plant, &slots).encode();
+            files.slots = slots.encode();
+        }
+        5 => {
             let mut slots = slots.ok()?;
             random.pick(&mutants::SLOTS_CHANGES)(random, &mut plant, &mut slots);
             files.slots = slots.encode();

@@ -6,7 +6,9 @@ use std::process::ExitCode;
 use std::{env, fs, io};
 
 use doxkarin_fuzz::input::Files;
+use doxkarin_tests::model::{Plan, Plant, Slots};
 use doxkarin_tests::random::Random;
+use doxkarin_tests::rolls::{any_k, rate_list};
 use doxkarin_tests::scenario::{greatest_sizes, sizes, Scenario};
 use doxkarin_tests::{facts, following, samples, small};
 
@@ -33,29 +35,27 @@ fn write(folder: &Path) -> io::Result<()> {
     Ok(())
 }
 
+/// These files, rolled on after so many weeks with the plant's own rates.
+fn files(plant: &Plant, plan: &Plan, slots: &Slots, k: u64) -> Files {
+    Files {
+        plant: plant.encode(),
+        plan: plan.encode(),
+        slots: slots.encode(),
+        k,
+        rates: rate_list(&plant.rates),
+    }
+}
+
 fn all() -> Vec<Files> {
-    let right = Files {
-        plant: small::plant().encode(),
-        plan: small::plan().encode(),
-        slots: small::slots().encode(),
-    };
-    let with_b_mounted = Files {
-        plant: small::mounted_plant().encode(),
-        plan: small::mounted_plan().encode(),
-        slots: small::slots().encode(),
-    };
-    let with_shut_weeks = Files {
-        plant: small::long_plant().encode(),
-        plan: small::long_plan().encode(),
-        slots: small::long_slots().encode(),
-    };
-    let mut all = vec![right.clone(), with_b_mounted, with_shut_weeks];
+    let right = files(&small::plant(), &small::plan(), &small::slots(), 1);
+    let with_b_mounted = files(&small::mounted_plant(), &small::mounted_plan(), &small::slots(), 1);
+    let mut all = vec![right.clone(), with_b_mounted];
+    for k in 0..=4 {
+        all.push(files(&small::long_plant(), &small::long_plan(), &small::long_slots(), k));
+    }
     for fact in facts::all() {
-        all.push(Files {
-            plant: fact.plant.encode(),
-            plan: fact.plan.encode(),
-            slots: fact.slots.map_or(right.slots.clone(), |slots| slots.encode()),
-        });
+        let slots = fact.slots.unwrap_or_else(small::slots);
+        all.push(files(&fact.plant, &fact.plan, &slots, 1));
     }
     let bytes = |sample: samples::Sample| sample.bytes;
     all.extend(samples::plants().into_iter().map(|s| Files { plant: bytes(s), ..right.clone() }));
@@ -67,7 +67,8 @@ fn all() -> Vec<Files> {
         let sizes = if turn == 0 { greatest_sizes() } else { sizes(&mut random) };
         let Scenario { plant, slots } = Scenario::new(&mut random, sizes);
         let plan = following::plan(&plant, &slots);
-        all.push(Files { plant: plant.encode(), plan: plan.encode(), slots: slots.encode() });
+        let k = any_k(&mut random, sizes.weeks);
+        all.push(files(&plant, &plan, &slots, k));
     }
     all
 }

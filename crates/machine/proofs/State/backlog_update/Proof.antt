@@ -24,7 +24,7 @@ Inv-loop plant slots f week pairs backlog₀ due₀ revenue₀ cost₀ pair₀ b
     × (revenue ≡ sumBelow pair (revenueAt (f .products) (plantOf f plant) (weekOfFiles f plant slots week)))
     × (revenue ≤ pair * (mostUnitCost * 2 ^ 32))
     × (cost ≡ sumBelow pair (newChargeAt (f .products) (plantOf f plant) (weekOfFiles f plant slots week) backlog₀))
-    × (cost ≤ pair * (mostUnitCost * (mostBacklog + mostDemand)))
+    × (cost ≤ pair * (mostUnitCost * mostBacklog))
 
 abbrev μ-loop : tie.MeasureT-loop
 μ-loop plant slots f week pairs backlog₀ due₀ revenue₀ cost₀ pair₀ backlog due revenue cost pair = pairs - pair
@@ -42,13 +42,13 @@ same : (c : tie.In-loop Inv-loop μ-loop) → let start = c .before .before .bef
     getD (c .before .loop .backlog) (c .before .loop .pair) 0 ≡ getD (start .args .self .backlog) (c .before .loop .pair) 0
 same c = cell-next _ _ _ _ (c .before .loop .inv .1)
 
--- and small
-before-most : (c : tie.In-loop Inv-loop μ-loop) → getD (c .before .loop .backlog) (c .before .loop .pair) 0 ≤ mostBacklog
+-- and has room for a week's demand
+before-most : (c : tie.In-loop Inv-loop μ-loop) → getD (c .before .loop .backlog) (c .before .loop .pair) 0 + mostDemand ≤ mostBacklog
 before-most c = omega (arith, same c, c .before .before .before .before .before .before .pre .1 .backlog-most _ (known c))
 
 -- what the pair owes is small
 owed : (c : tie.After-pair-demand Inv-loop μ-loop) → let turn = c .before .before .loop in
-    getD (turn .backlog) (turn .pair) 0 + c .pair-demand .result ≤ mostBacklog + mostDemand
+    getD (turn .backlog) (turn .pair) 0 + c .pair-demand .result ≤ mostBacklog
 owed c = omega (arith, before-most (c .before), c .pair-demand .ensures .1)
 
 -- what is left of it
@@ -61,7 +61,7 @@ left c =
     let demand = sales .before in
     rw (c .less .ensures, same (demand .before), demand .pair-demand .ensures .0, sales .pair-sales .ensures .0)
 
-left-most : (c : tie.After-less Inv-loop μ-loop) → c .less .result .0 ≤ mostBacklog + mostDemand
+left-most : (c : tie.After-less Inv-loop μ-loop) → c .less .result .0 ≤ mostBacklog
 left-most c = omega (arith, c .less .ensures, owed (c .before .before .before .before .before))
 
 add-revenue : tie.Need-add-revenue Inv-loop μ-loop

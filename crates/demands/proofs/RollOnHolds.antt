@@ -51,7 +51,7 @@ use Rattle.calls.specs.declared.Check.the-variants as check
 use Rattle.calls.specs.Check.{checkFrom, checkOf}
 use Rattle.calls.specs.Answer.{Answer, bytes, refused, formAnswer, judgedAnswer, testAnswer, rollPassed, rollAnswer}
 use Rattle.demands.specs.OpeningMounted.{Passes}
-use Rattle.demands.specs.RollOn.{RatesInRange, RollRefused, RolledOn, RollOn, OpeningOwed, RollingOn}
+use Rattle.demands.specs.RollOn.{RatesInRange, RollRefused, RolledOn, RollOn, OpeningBacklog, RollingOn}
 use Rattle.demands.proofs.ThirdDemandHolds.{check-passing}
 use Rattle.demands.proofs.RolledRuns.{opens-mounted, runs-on}
 
@@ -127,7 +127,7 @@ module _ (plant : List ℕ) (f : Shape) (accepted : plantForm plant ≡ form.Goo
 
         -- the backlog after week k
         backlog-is : (c i : ℕ) → backlogBefore P X k c i ≡ X .backlog c i (k - 1)
-        backlog-is c i = ap (λ (owed : ℕ → ℕ → ℕ). owed c i) (backlog-after P X k some)
+        backlog-is c i = ap (λ (table : ℕ → ℕ → ℕ). table c i) (backlog-after P X k some)
 
         too-much : (c i : ℕ) → c < f .customers → i < f .products → 1600000000 < X .backlog c i (k - 1) → rollAnswer plant plan k rates ≡ refused 62
         unfolding rollPassed
@@ -242,8 +242,8 @@ module _ (plant : List ℕ) (f : Shape) (accepted : plantForm plant ≡ form.Goo
           let last : k - 1 < f .weeks = omega (arith, left) in
           record {
             demand = λ c i w j l m. sym (same .demand c i w j l m);
-            stock = λ i l. sym (same .openingInventory i l) ∙ given-inventory R g k i left l;
-            owed = λ c i j l. sym (same .openingBacklog c i j l) ∙ given-backlog R g k c i left j l;
+            inventory = λ i l. sym (same .openingInventory i l) ∙ given-inventory R g k i left l;
+            backlog = λ c i j l. sym (same .openingBacklog c i j l) ∙ given-backlog R g k c i left j l;
             mounted = opens-mounted f plant R S _ X g k left new (plant-ranges new (rolledShape f k) good-file) (listedRate rates) same;
             rate = λ i l. sym (same .rate i l);
             shut-before = rw shut-same at
@@ -317,13 +317,13 @@ roll-refused plant f accepted plan k rates =
       outside-is-61 = λ h. outside plant f accepted plan h k rates;
       list-is-4 = λ h a b. wrong-list plant f accepted plan h k rates a b;
       rate-is-5 = λ h a b. wrong-rate plant f accepted plan h k rates a b;
-      owed-is-62 = λ h a b. too-much plant f accepted plan h k rates a b;
+      backlog-is-62 = λ h a b. too-much plant f accepted plan h k rates a b;
       otherwise = λ h a b. written plant f accepted plan h k rates a b;
     }
 
-opening-owed : (plant : List ℕ) (f : Shape) → plantForm plant ≡ form.Good f → OpeningOwed plant f
+opening-backlog : (plant : List ℕ) (f : Shape) → plantForm plant ≡ form.Good f → OpeningBacklog plant f
 unfolding plantKind
-opening-owed plant f accepted =
+opening-backlog plant f accepted =
     record {
       kind-four = refl;
       kind-one = refl;
@@ -338,5 +338,5 @@ rolling-on plant =
       unchecked = λ plan k rates n e. judged-refused (judgementOf plant plan) _ n e;
       refusals = roll-refused plant;
       writes = λ f accepted plan h k rates new. roll-on plant f accepted plan h k rates new;
-      opening-owed = opening-owed plant;
+      opening-backlog = opening-backlog plant;
     }

@@ -44,7 +44,7 @@ pub record RollRefused (plant : List ℕ) (f : Shape) (plan : List ℕ) (k : ℕ
   pub rate-is-5 : Passes plant plan → 1 ≤ k → k < f .weeks → length rates ≡ 4 * f .products
       → (i : ℕ) → i < f .products → (listedRate rates i ≡ 0) ⊎ (100000 < listedRate rates i) → rollAnswer plant plan k rates ≡ refused 5
   -- "62 if an owed amount exceeds the limit, after the rates and before 51"
-  pub owed-is-62 : Passes plant plan → 1 ≤ k → k < f .weeks → length rates ≡ 4 * f .products → RatesInRange (f .products) rates
+  pub backlog-is-62 : Passes plant plan → 1 ≤ k → k < f .weeks → length rates ≡ 4 * f .products → RatesInRange (f .products) rates
       → (c i : ℕ) → c < f .customers → i < f .products → 1600000000 < planOf f plan .backlog c i (k - 1) → rollAnswer plant plan k rates ≡ refused 62
   -- else there is a file to write
   pub otherwise : Passes plant plan → 1 ≤ k → k < f .weeks → length rates ≡ 4 * f .products → RatesInRange (f .products) rates
@@ -71,8 +71,8 @@ pub record RolledOn (N C weeks : ℕ) (P : Plant) (S : Slots) (k : ℕ) (rates :
   -- "demands cut"
   pub demand : (c i w : ℕ) → c < C → i < N → w < weeks - k → Q .demand c i w ≡ P .demand c i (k + w)
   -- "stock, owed and mounted product as after week k"
-  pub stock : (i : ℕ) → i < N → Q .openingInventory i ≡ inventoryOf (after P S k) i
-  pub owed : (c i : ℕ) → c < C → i < N → Q .openingBacklog c i ≡ backlogOf N (after P S k) c i
+  pub inventory : (i : ℕ) → i < N → Q .openingInventory i ≡ inventoryOf (after P S k) i
+  pub backlog : (c i : ℕ) → c < C → i < N → Q .openingBacklog c i ≡ backlogOf N (after P S k) c i
   pub mounted : openingMounted (Q .line) ≡ mountedAt P S k
   -- "new rates"
   pub rate : (i : ℕ) → i < N → Q .line .rate i ≡ listedRate rates i
@@ -104,7 +104,7 @@ pub record RollOn (plant : List ℕ) (f : Shape) (plan : List ℕ) (k : ℕ) (ra
   pub whole : after (plantOf f plant) (shownIn f plan) (f .weeks) .profit .0 ≡ planOf f plan .profit
 
 -- "In kind 4 the opening owed may reach 1,600,000,000", in kind 1 100,000,000 as before
-pub record OpeningOwed (plant : List ℕ) (f : Shape) : Type 0 where
+pub record OpeningBacklog (plant : List ℕ) (f : Shape) : Type 0 where
   pub kind-four : plantKind 4 .backlog ≡ 1600000000
   pub kind-one : plantKind 1 .backlog ≡ 100000000
   pub limit : (c i : ℕ) → c < f .customers → i < f .products → plantOf f plant .openingBacklog c i ≤ plantKind (f .kind) .backlog
@@ -120,4 +120,4 @@ pub record RollingOn (plant : List ℕ) : Type 0 where
   pub refusals : (f : Shape) → plantForm plant ≡ form.Good f → (plan : List ℕ) (k : ℕ) (rates : List ℕ) → RollRefused plant f plan k rates
   pub writes : (f : Shape) → plantForm plant ≡ form.Good f → (plan : List ℕ) → Passes plant plan → (k : ℕ) (rates new : List ℕ)
       → rollAnswer plant plan k rates ≡ bytes new → RollOn plant f plan k rates new
-  pub opening-owed : (f : Shape) → plantForm plant ≡ form.Good f → OpeningOwed plant f
+  pub opening-backlog : (f : Shape) → plantForm plant ≡ form.Good f → OpeningBacklog plant f

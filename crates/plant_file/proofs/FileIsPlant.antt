@@ -203,7 +203,8 @@ module _ (p : Plant) (R : PlantRanges p) where
 
   -- the numbers come back
   pub file-plant : SamePlant p (plantOf f F)
-  unfolding plantBodies rateIn changeoverMinutesIn changeoverCentsIn demandIn priceIn backlogCostIn inventoryCostIn leastStorageIn greatestStorageIn openingInventoryIn openingBacklogIn shortestRunIn weekMinutesIn
+  unfolding plantBodies rateIn changeoverMinutesIn changeoverCentsIn demandIn priceIn backlogCostIn inventoryCostIn leastStorageIn greatestStorageIn
+      openingInventoryIn openingBacklogIn shortestRunIn weekMinutesIn
   file-plant =
       let n = p .products in
       let c = p .customers in

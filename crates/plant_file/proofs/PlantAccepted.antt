@@ -62,7 +62,8 @@ line-is s f R =
     (both-and _ _ (le-leb _ _ (R .shut-before-most)) (known-is n (mountedIn f s) (R .mounted-known))))))
 
 ranges-pass : (s : List ℕ) (f : Shape) → PlantRanges (plantOf f s) → plantInRange s f ≡ true
-unfolding plantInRange marketInRange storageInRange openingInRange timeInRange demandIn priceIn backlogCostIn inventoryCostIn leastStorageIn greatestStorageIn openingInventoryIn openingBacklogIn shortestRunIn weekMinutesIn
+unfolding plantInRange marketInRange storageInRange openingInRange timeInRange demandIn priceIn backlogCostIn inventoryCostIn leastStorageIn
+    greatestStorageIn openingInventoryIn openingBacklogIn shortestRunIn weekMinutesIn
 ranges-pass s f R =
     let n = f .products in
     let c = f .customers in

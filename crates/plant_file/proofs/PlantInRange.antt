@@ -68,7 +68,8 @@ storage-at s n h i l =
     (leb-true _ _ (r .0), leb-true _ _ (r .1))
 
 pub plant-ranges : (s : List ℕ) (f : Shape) → plantForm s ≡ Good f → PlantRanges (plantOf f s)
-unfolding demandIn priceIn backlogCostIn inventoryCostIn leastStorageIn greatestStorageIn openingInventoryIn openingBacklogIn shortestRunIn weekMinutesIn mountedIn shutBeforeIn inLimits plantInRange marketInRange openingInRange timeInRange
+unfolding demandIn priceIn backlogCostIn inventoryCostIn leastStorageIn greatestStorageIn openingInventoryIn openingBacklogIn shortestRunIn
+    weekMinutesIn mountedIn shutBeforeIn inLimits plantInRange marketInRange openingInRange timeInRange
 plant-ranges s f good =
     let g = plant-good s f good in
     let n = f .products in

@@ -74,7 +74,8 @@ module _ (f : Shape) (s : List ℕ) (b : Bytes s) (good : plantForm s ≡ Good f
 
   -- each body; section 12 in the kinds that have it
   pub body-is : (i : ℕ) → i < plantKind (f .kind) .sections → getD (plantBodies (plantOf f s)) i [] ≡ part s (offset s i) (extent s i)
-  unfolding plantBodies rateIn changeoverMinutesIn changeoverCentsIn demandIn priceIn backlogCostIn inventoryCostIn leastStorageIn greatestStorageIn openingInventoryIn openingBacklogIn shortestRunIn weekMinutesIn mountedIn shutBeforeIn
+  unfolding plantBodies rateIn changeoverMinutesIn changeoverCentsIn demandIn priceIn backlogCostIn inventoryCostIn
+      leastStorageIn greatestStorageIn openingInventoryIn openingBacklogIn shortestRunIn weekMinutesIn mountedIn shutBeforeIn
   body-is i l =
       let n = f .products in
       below-twelve (λ i. i < plantKind (f .kind) .sections → getD (plantBodies (plantOf f s)) i [] ≡ part s (offset s i) (extent s i))

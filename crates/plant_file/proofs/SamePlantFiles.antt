@@ -94,7 +94,8 @@ section-bytes f s good four =
 -- the first file's rows are enough: the other's contents are the same
 pub same-numbers : (f : Shape) (a b : List ℕ) → plantForm a ≡ Good f → f .kind ≡ 4 → ((j : ℕ) → j + 1 < length a → getD b j 0 ≡ getD a j 0)
     → SamePlant (plantOf f a) (plantOf f b)
-unfolding rateIn changeoverMinutesIn changeoverCentsIn demandIn priceIn backlogCostIn inventoryCostIn leastStorageIn greatestStorageIn openingInventoryIn openingBacklogIn shortestRunIn weekMinutesIn mountedIn
+unfolding rateIn changeoverMinutesIn changeoverCentsIn demandIn priceIn backlogCostIn inventoryCostIn leastStorageIn greatestStorageIn
+    openingInventoryIn openingBacklogIn shortestRunIn weekMinutesIn mountedIn
 same-numbers f a b good four agree =
     let n = f .products in
     let cn = f .customers * n in

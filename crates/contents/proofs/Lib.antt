@@ -1,7 +1,5 @@
-pub mod CursorType
 pub mod Entries
 pub mod Facts
 pub mod FileLayout
 pub mod FileWritten
 pub mod FileStored
-pub mod Walk

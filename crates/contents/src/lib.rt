@@ -1,4 +1,6 @@
 // A file's table of contents: read by a cursor over the file, tried, and written.
+#![tactic(auto)]
+
 ghost use Rattle.std.specs.Prelude.{◌≡◌, ◌++◌, eqb, ◌+◌, ◌*◌, ◌≤◌, ◌<◌, ◌^◌, length};
 ghost use Rattle.mathematics.specs.Below.{all_below, join_below};
 ghost use Rattle.numbers.specs.Number.{store, digits};
@@ -8,7 +10,7 @@ ghost use Rattle.contents.specs.File.{entry_bytes, contents_bytes, Listable};
 use numbers::{and, read, read4, wide, write};
 
 // A contents entry: a section's number, and where its body starts and how long it is.
-#[derive(Drop)]
+#[derive(Clone, Copy)]
 pub struct Entry {
     pub number: u64,
     pub offset: u64,
@@ -16,7 +18,7 @@ pub struct Entry {
 }
 
 // A place in the contents of a file.
-#[derive(Drop)]
+#[derive(Clone, Copy)]
 pub struct Cursor<'a> {
     pub src: &'a [u8],
     pub at: usize,

@@ -1,4 +1,6 @@
 // Little-endian numbers: read from the caller's bytes, and stored. The values are u64, the places usize.
+#![tactic(auto)]
+
 ghost use Rattle.std.specs.Prelude.{◌≡◌, ◌&&◌, ◌+◌, ◌*◌, ◌≤◌, ◌<◌, ◌^◌, length};
 ghost use Rattle.mathematics.specs.Below.{within};
 ghost use Rattle.numbers.specs.Number.{number_at, digits, store, Width};

@@ -1,4 +1,6 @@
 // What plant, plan and slot files share: the answer of a file's rows, and tests on the numbers of a section.
+#![tactic(auto)]
+
 ghost use Rattle.std.specs.Prelude.{◌≡◌, ◌+◌, ◌*◌, ◌^◌, ◌≤◌, ◌<◌, length};
 ghost use Rattle.mathematics.specs.Below.{sum_below};
 ghost use Rattle.numbers.specs.Number.{encode, store};
@@ -10,7 +12,7 @@ use contents::entry_in;
 use numbers::{and, as_usize, inside, read, read4};
 
 // The kind of a plant file, and its N, C and W: the counts of products, customers and weeks.
-#[derive(Drop)]
+#[derive(Clone, Copy)]
 pub struct Shape {
     pub kind: u8,
     pub products: u8,
@@ -19,14 +21,14 @@ pub struct Shape {
 }
 
 // What a file's rows say: good, for a plant of this shape, or refused with the paper's number.
-#[derive(Drop)]
+#[derive(Clone, Copy)]
 pub enum Form {
     Good(Shape),
     Refused(u32),
 }
 
 // How a section's numbers stand: how many bytes each has, and how many rows of how many numbers.
-#[derive(Drop)]
+#[derive(Clone, Copy)]
 pub struct Layout {
     pub width: usize,
     pub rows: usize,
@@ -35,7 +37,7 @@ pub struct Layout {
 
 // Where the weeks of a pair stand in a section of 4-byte numbers by customer, product and week. A pair is a customer times the count of
 // products, plus a product.
-#[derive(Drop)]
+#[derive(Clone, Copy)]
 pub struct PairRow {
     pub section: usize,
     pub pair: usize,

@@ -1,46 +1,48 @@
 // Time, mass and money, and how one becomes another.
+#![tactic(auto)]
+
 ghost use Rattle.std.specs.Prelude.{◌≡◌, ◌+◌, ◌*◌, ◌^◌, ◌≤◌, ◌<◌, pos, ◌+ℤ◌, ◌-ℤ◌};
 ghost use Rattle.std.specs.Int.Signed.{mag};
 ghost use Rattle.sections.specs.Limits.{most_rate, most_unit_cost};
 
 // Time.
-#[derive(Drop)]
+#[derive(Clone, Copy)]
 pub struct Minutes(pub u64);
 
 // Mass.
-#[derive(Drop)]
+#[derive(Clone, Copy)]
 pub struct Grams(pub u64);
 
 // Mass of each product.
-#[derive(Drop)]
+#[derive(Clone, Copy)]
 pub struct ProductGrams(pub [u64; 16]);
 
 // Mass of each pair of a customer and a product.
-#[derive(Drop)]
+#[derive(Clone, Copy)]
 pub struct PairGrams(pub [u32; 128]);
 
 // Grams a minute.
-#[derive(Drop)]
+#[derive(Clone, Copy)]
 pub struct Rate(pub u64);
 
 // Money: what a changeover costs.
-#[derive(Drop)]
+#[derive(Clone, Copy)]
 pub struct Cents(pub u64);
 
 // Money: cents a kilogram, which are thousandths of a cent a gram.
-#[derive(Drop)]
+#[derive(Clone, Copy)]
 pub struct UnitCost(pub u64);
 
 // Money: thousandths of a cent, not below 0.
-#[derive(Drop)]
+#[derive(Clone, Copy)]
 pub struct Thousandths(pub u64);
 
 // Money: profit, in thousandths of a cent.
-#[derive(Drop)]
+#[derive(Clone, Copy)]
 pub struct Profit(pub i64);
 
 // What a changeover takes.
-#[derive(Drop)]
+#[derive(Clone, Copy)]
 pub struct Changeover {
     pub minutes: Minutes,
     pub cents: Cents,

@@ -1,0 +1,18 @@
+-- `sections::copy_section` meets its contract: the loop has copied the bytes below `j`. Assumes nothing.
+use borrow.Author.Rules.{rules}
+use native.Mathlib.Omega.{arith}
+use mathlib.Core.Path.{◌≡◌, refl, sym, ap, ◌∙◌}
+use Prim.Native.Nat.{◌+◌, ◌*◌, ◌-◌, ◌≤◌}
+use lib.ListN.{length, length-set}
+use Rattle.numbers.specs.Number.{Bytes, part, store}
+use Rattle.numbers.proofs.Number.{encode_numbers}
+use Rattle.contents.specs.Contents.{offset, cell}
+use Rattle.contents.specs.declared.Entry.{Entry}
+use Rattle.sections.proofs.Copies.{copied_more}
+use Rattle.sections.proofs.copy_section.Given as goal
+
+abbrev pub invariant-loop-j : goal.invariant-loop-j
+invariant-loop-j l = (l.j ≤ l.size) × (length l.out ≡ length l.initial.out) × (l.out ≡ store l.initial.out 0 (part l.s l.at l.j))
+
+abbrev pub decreases-loop-j : goal.decreases-loop-j
+decreases-loop-j l = l.size - l.j

@@ -1,4 +1,6 @@
 // Plan files, kind 2: the rows of refusal, the numbers of each section, and the writing of them.
+#![tactic(auto)]
+
 ghost use Rattle.std.specs.Prelude.{◌≡◌, ℕ, ◌+◌, ◌/◌, ◌%◌, ◌*◌, ◌≤◌, ◌<◌, ◌^◌, length, get_or};
 ghost use Rattle.mathematics.specs.Below.{sum_below};
 ghost use Rattle.numbers.specs.Number.{store};
@@ -275,7 +277,7 @@ pub fn profit(s: &[u8], f: Shape) -> i64
 // ---- tables by their names
 
 // The tables by week and product: E, F, L and T.
-#[derive(Drop)]
+#[derive(Clone, Copy)]
 pub enum ProductTable {
     Assigned,
     First,
@@ -284,7 +286,7 @@ pub enum ProductTable {
 }
 
 // The tables of changeovers: Z, within the week, and ZF, from an earlier week.
-#[derive(Drop)]
+#[derive(Clone, Copy)]
 pub enum ChangeoverTable {
     Within,
     Between,
@@ -347,7 +349,7 @@ pub fn changeover(
 }
 
 // A week's sums of a table of changeovers, for at most 16 products: into each and out of it.
-#[derive(Drop)]
+#[derive(Clone, Copy)]
 pub struct ArcSums {
     pub into: [u8; 16],
     pub out: [u8; 16],

@@ -1,4 +1,6 @@
 // Plant files, kinds 1 and 4: the rows of refusal, the numbers of each section, and the writing of them; lists of rates.
+#![tactic(auto)]
+
 ghost use Rattle.std.specs.Prelude.{◌≡◌, ◌⊎◌, true, cond, [], ◌++◌, ◌+◌, ◌*◌, ◌/◌, ◌%◌, ◌^◌, ◌≤◌, ◌<◌, length, get_or};
 ghost use Rattle.mathematics.specs.Below.{all_below, within};
 ghost use Rattle.numbers.specs.Number.{digits, encode, store};
@@ -81,7 +83,7 @@ pub const NOTHING_MOUNTED: u64 = 255;
 
 // What a kind of plant file has: its number, how many sections from section 1 on, the most grams of opening backlog, and whether the
 // diagonals of sections 3 and 4 may be filled.
-#[derive(Drop)]
+#[derive(Clone, Copy)]
 struct PlantKind {
     number: u64,
     sections: usize,

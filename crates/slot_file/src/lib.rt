@@ -1,4 +1,6 @@
 // Slot files, kind 3: the rows of refusal, the numbers of each section, and the writing of one.
+#![tactic(auto)]
+
 ghost use Rattle.std.specs.Prelude.{◌≡◌, true, ◌++◌, ◌+◌, ◌*◌, ◌/◌, ◌%◌, ◌≤◌, ◌<◌, ◌^◌, ltb, length, get_or, take};
 ghost use Rattle.mathematics.specs.Below.{sum_below, all_below, list_below};
 ghost use Rattle.numbers.specs.Number.{digits, store};
@@ -35,21 +37,21 @@ pub const SALES: usize = 2;
 pub const SLOT_BYTES: usize = 3;
 
 // A production run: a product and its minutes.
-#[derive(Drop)]
+#[derive(Clone, Copy)]
 pub struct Slot {
     pub product: usize,
     pub minutes: Minutes,
 }
 
 // The slots of a week in running order: the first `count` of an array.
-#[derive(Drop)]
+#[derive(Clone, Copy)]
 pub struct WeekSlots {
     pub slots: [Slot; 16],
     pub count: usize,
 }
 
 // Where the slots of a week stand: `count` of them, from slot `first` of all on. After the last week there are none.
-#[derive(Drop)]
+#[derive(Clone, Copy)]
 pub struct SlotRow {
     pub week: usize,
     pub first: usize,

@@ -1,0 +1,25 @@
+-- `plan_file::add_row` meets its contract: the loop has added the marks to the products below `to`. Assumes nothing.
+use borrow.Author.Rules.{rules}
+use native.Mathlib.Omega.{arith}
+use native.Mathlib.Numerals.{add-one}
+use mathlib.Core.Path.{◌≡◌, refl, ap, ◌∙◌}
+use Prim.Native.Nat.{ℕ, ◌+◌, ◌-◌, ◌<◌, ◌≤◌}
+use lib.ListN.{length, get_or, length-set}
+use Rattle.mathematics.specs.Below.{sum_below}
+use Rattle.plan_file.specs.Plan.{plan_of}
+use Rattle.plan_file.specs.Tables.{changeover_table_of}
+use Rattle.plan_file.proofs.Counts.{added_below, same_above, below_next}
+use Rattle.plan_file.proofs.add_row.Given as goal
+
+abbrev pub invariant-loop-to : goal.invariant-loop-to
+invariant-loop-to l =
+    let marks = changeover_table_of l.table (plan_of l.f l.s).line l.week l.from in
+    (l.to ≤ l.n) × (length l.into ≡ 16)
+    × ((j : ℕ) → j < l.to → get_or l.into j 0 ≡ get_or l.initial.into j 0 + marks j)
+    × ((j : ℕ) → l.to ≤ j → get_or l.into j 0 ≡ get_or l.initial.into j 0)
+    × ((j : ℕ) → j < l.to → marks j < 2)
+    × (l.sum ≡ sum_below l.to marks)
+    × (l.sum ≤ l.to)
+
+abbrev pub decreases-loop-to : goal.decreases-loop-to
+decreases-loop-to l = l.n - l.to

@@ -1,0 +1,23 @@
+-- `plan_file::arc_sums` meets its contract: the loop has added the rows below `from`. Assumes nothing.
+use borrow.Author.Rules.{rules}
+use native.Mathlib.Omega.{arith}
+use native.Mathlib.Numerals.{add-one}
+use mathlib.Core.Path.{◌≡◌, refl, ap, ◌∙◌}
+use Prim.Native.Nat.{ℕ, ◌-◌, ◌<◌, ◌≤◌}
+use lib.ListN.{length, get_or, length-set}
+use Rattle.mathematics.specs.Below.{sum_below}
+use Rattle.plan_file.specs.Plan.{plan_of}
+use Rattle.plan_file.specs.Tables.{changeover_table_of}
+use Rattle.plan_file.proofs.Counts.{stored_below, zeros}
+use Rattle.plan_file.proofs.arc_sums.Given as goal
+
+abbrev pub invariant-loop-from : goal.invariant-loop-from
+invariant-loop-from l =
+    let marks = changeover_table_of l.table (plan_of l.f l.s).line l.week in
+    (l.from ≤ l.n) × (length l.into ≡ 16) × (length l.out ≡ 16)
+    × ((j : ℕ) → j < l.f.products → get_or l.into j 0 ≡ sum_below l.from (λ i. marks i j))
+    × ((j : ℕ) → j < l.f.products → get_or l.into j 0 ≤ l.from)
+    × ((i : ℕ) → i < l.from → get_or l.out i 0 ≡ sum_below l.f.products (marks i))
+
+abbrev pub decreases-loop-from : goal.decreases-loop-from
+decreases-loop-from l = l.n - l.from

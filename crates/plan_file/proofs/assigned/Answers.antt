@@ -1,0 +1,16 @@
+-- `plan_file::assigned` meets its contract. Assumes nothing.
+use borrow.Author.Rules.{rules}
+use native.Mathlib.Omega.{arith}
+use mathlib.Core.Path.{refl}
+use Rattle.sections.proofs.Rows.{width1}
+use Rattle.plan_file.specs.Plan.{line_plan_of, plan_of}
+use Rattle.plan_file.proofs.PlanReads.{plan_good}
+use Rattle.plan_file.proofs.Access.{inside, bit}
+use Rattle.plan_file.proofs.assigned.Goals as goal
+
+pub cell_in-requires : goal.cell_in-requires
+cell_in-requires c = inside _ _ c.requires.0 _ (omega arith) width1 refl c.index2.ensures.1
+
+pub returns : goal.returns
+unfolding plan_of line_plan_of
+returns c = bit _ _ (plan_good _ _ c.requires.0).bits.assigned c.cell_in.ensures c.index2.ensures

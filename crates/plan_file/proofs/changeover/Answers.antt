@@ -1,0 +1,16 @@
+-- `plan_file::changeover` meets its contract. Assumes nothing.
+use borrow.Author.Rules.{rules}
+use mathlib.Core.Path.{◌∙◌}
+use Rattle.mathematics.proofs.Pairs.{table_at}
+use Rattle.plan_file.specs.Plan.{plan_of}
+use Rattle.plan_file.specs.Tables.{changeover_table_of}
+use Rattle.plan_file.proofs.changeover.Goals as goal
+
+pub returns : goal.returns
+returns c =
+    let a = c.args in
+    let r = c.arc_changeover.ensures in (
+      r.0 ∙ table_at (changeover_table_of a.table (plan_of a.f a.s.now).line a.week) c.index2-arc.ensures.0
+          c.requires.3,
+      r.1,
+    )

@@ -1,0 +1,15 @@
+-- `plan_file::position` meets its contract. Assumes nothing.
+use borrow.Author.Rules.{rules}
+use native.Mathlib.Omega.{arith}
+use mathlib.Core.Path.{refl}
+use Rattle.sections.proofs.Rows.{width1}
+use Rattle.plan_file.specs.Plan.{line_plan_of, plan_of}
+use Rattle.plan_file.proofs.Access.{inside, number}
+use Rattle.plan_file.proofs.position.Goals as goal
+
+pub cell_in-requires : goal.cell_in-requires
+cell_in-requires c = inside _ _ c.requires.0 _ (omega arith) width1 refl c.index2.ensures.1
+
+pub returns : goal.returns
+unfolding plan_of line_plan_of
+returns c = number _ _ _ (λ i. (c.shared_slice_known-1.given i).fits) c.cell_in.ensures c.index2.ensures.0

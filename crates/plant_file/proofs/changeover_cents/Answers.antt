@@ -1,0 +1,15 @@
+-- `plant_file::changeover_cents` meets its contract. Assumes nothing.
+use borrow.Author.Rules.{rules}
+use native.Mathlib.Omega.{arith}
+use Rattle.plant_file.specs.Plant.{changeover_cents_in}
+use Rattle.plant_file.proofs.PlantInRange.{plant_ranges}
+use Rattle.plant_file.proofs.PlantAccess.{held4, pair_answer}
+use Rattle.plant_file.proofs.changeover_cents.Goals as goal
+
+pub returns : goal.returns
+unfolding changeover_cents_in
+returns c = let h = c.requires in pair_answer 4 3 _ c.cell_in.ensures h.1 (plant_ranges _ _ h.0).line.cents_most
+
+pub cell_in-requires : goal.cell_in-requires
+cell_in-requires c =
+    held4 c.requires.0 3 (search rules) (omega arith) c.requires.1

@@ -1,0 +1,54 @@
+-- `plant_file::copy_body` meets its contract. Assumes nothing.
+use borrow.Author.Rules.{rules}
+use native.Mathlib.Omega.{arith}
+use native.Mathlib.Nat.{one-mul}
+use mathlib.Core.Path.{◌≡◌, sym, ap, ◌∙◌}
+use lib.ListN.{length, get_or}
+use Rattle.numbers.specs.Number.{Bytes, store}
+use Rattle.contents.specs.Contents.{extent}
+use Rattle.contents.specs.declared.Entry.{Entry}
+use Rattle.sections.specs.Section.{Laid, Holds}
+use Rattle.sections.proofs.Rows.{laid_extent, laid_holds, width1}
+use Rattle.sections.proofs.Tables.{section_is}
+use Rattle.plant_file.specs.Form.{plant_lengths}
+use Rattle.plant_file.proofs.PlantKinds.{kind_lengths, kind_sections}
+use Rattle.plant_file.proofs.PlantReads.{good_laid}
+use Rattle.plant_file.proofs.PlantIsFile.{body_is}
+use Rattle.plant_file.proofs.copy_body.Goals as goal
+use Rattle.plant_file.proofs.copy_body.Goals.{After-entry_in-e}
+
+module _ (c : After-entry_in-e) where
+  laid : Laid c.args.s.now (plant_lengths c.args.f)
+  laid = good_laid c.args.s.now c.args.f c.requires.0
+
+  -- the body's length, which was read
+  extent_is : c.entry_in-e.result.length ≡ extent c.args.s.now c.args.place
+  extent_is = ap (λ (x : Entry). x.length) c.entry_in-e.ensures.0
+
+  length_is : c.entry_in-e.result.length ≡ get_or (plant_lengths c.args.f) c.args.place 0
+  length_is = extent_is ∙ laid_extent laid c.args.place (omega (arith, c.requires.1, kind_lengths c.args.f))
+
+  held : Holds c.args.s.now c.args.place 1 c.entry_in-e.result.length
+  held =
+      laid_holds laid c.args.place (omega (arith, c.requires.1, kind_lengths c.args.f)) 1 _ width1 (omega (arith, length_is))
+
+pub entry_in-e-requires : goal.entry_in-e-requires
+entry_in-e-requires c =
+    let s = c in
+    let few = (kind_sections s.args.f.kind).1 in
+    let z = good_laid s.args.s.now s.args.f s.requires.0 in
+    (omega (arith, s.requires.1, few), omega (arith, z.long, s.requires.1, kind_lengths s.args.f))
+
+pub returns : goal.returns
+returns c =
+    let d = c in
+    let s = c in
+    let bytes : Bytes s.args.s.now = λ i. (d.shared_slice_known-1.given i).fits in
+    c.copy_section.ensures
+    ∙ ap (store s.args.out.now 0)
+    (section_is 1 _ s.args.s.now s.args.place bytes (held (goal.at.returns d).After-entry_in-e) (sym (extent_is (goal.at.returns d).After-entry_in-e) ∙ sym (one-mul _))
+    ∙ sym (body_is s.args.f s.args.s.now bytes s.requires.0 s.args.place s.requires.1))
+
+pub copy_section-requires : goal.copy_section-requires
+copy_section-requires c =
+    (held (goal.at.copy_section-requires c).After-entry_in-e, omega (arith, length_is (goal.at.copy_section-requires c).After-entry_in-e, c.requires.2))

@@ -1,0 +1,32 @@
+-- `plant_file::has_lengths` meets its contract. Assumes nothing.
+use borrow.Author.Rules.{rules}
+use native.Mathlib.Omega.{arith}
+use mathlib.Core.Path.{◌≡◌, ap, ◌∙◌}
+use lib.ListN.{take}
+use Rattle.contents.specs.Contents.{sized}
+use Rattle.plant_file.specs.Form.{plant_lengths}
+use Rattle.plant_file.proofs.PlantKinds.{kind_sections, kind_lengths, first_lengths, first_count, first_few}
+use Rattle.plant_file.proofs.has_lengths.Goals as goal
+use Rattle.plant_file.proofs.has_lengths.Goals.{After-body_lengths-lengths}
+
+-- the lengths of the kind's sections
+first : (c : After-body_lengths-lengths)
+    → take c.plant_kind-k.result.sections c.body_lengths-lengths.result ≡ plant_lengths c.args.f
+first c = first_lengths c.args.f _ _ c.plant_kind-k.ensures c.body_lengths-lengths.ensures
+
+pub is_sized-requires : goal.is_sized-requires
+is_sized-requires c =
+    let s = c in
+    let n = kind_lengths s.args.f in
+    rw (first (goal.at.is_sized-requires c).After-body_lengths-lengths) (omega (arith, n, s.requires), omega (arith, n, (kind_sections s.args.f.kind).1))
+
+pub returns : goal.returns
+returns c = c.is_sized.ensures ∙ ap (sized c.args.s.now) (first (goal.at.returns c).After-body_lengths-lengths)
+
+pub slice_bounds-lengths-end : goal.slice_bounds-lengths-end
+slice_bounds-lengths-end c =
+    first_few c.args.f _ _ c.plant_kind-k.ensures c.body_lengths-lengths.ensures
+
+pub slice_bounds-is_sized-end : goal.slice_bounds-is_sized-end
+slice_bounds-is_sized-end c =
+    let d = c in first_count d.args.f _ _ d.plant_kind-k.ensures d.body_lengths-lengths.ensures

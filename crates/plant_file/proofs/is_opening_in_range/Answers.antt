@@ -1,0 +1,16 @@
+-- `plant_file::is_opening_in_range` meets its contract. Assumes nothing.
+use borrow.Author.Rules.{rules}
+use native.Mathlib.Omega.{arith}
+use Rattle.sections.proofs.Rows.{laid_holds, width4}
+use Rattle.plant_file.specs.Form.{opening_in_range}
+use Rattle.plant_file.proofs.is_opening_in_range.Goals as goal
+
+pub in_range-requires : goal.in_range-requires
+in_range-requires c = laid_holds c.requires 9 (search rules) 4 _ width4 (omega arith)
+
+pub in_range-requires-2 : goal.in_range-requires-2
+in_range-requires-2 c = laid_holds c.requires 9 (search rules) 4 _ width4 (omega arith)
+
+pub returns : goal.returns
+unfolding opening_in_range
+returns c = cc

@@ -1,0 +1,15 @@
+-- `plant_file::pair_backlog_cost` meets its contract. Assumes nothing.
+use borrow.Author.Rules.{rules}
+use native.Mathlib.Omega.{arith}
+use Rattle.plant_file.specs.Plant.{backlog_cost_in}
+use Rattle.plant_file.proofs.PlantInRange.{plant_ranges}
+use Rattle.plant_file.proofs.PlantAccess.{held4, pair_answer}
+use Rattle.plant_file.proofs.pair_backlog_cost.Goals as goal
+
+pub returns : goal.returns
+unfolding backlog_cost_in
+returns c = let h = c.requires in pair_answer 4 6 _ c.cell_in.ensures h.1 (plant_ranges _ _ h.0).backlog_cost_most
+
+pub cell_in-requires : goal.cell_in-requires
+cell_in-requires c =
+    held4 c.requires.0 6 (search rules) (omega arith) c.requires.1

@@ -1,0 +1,17 @@
+-- `plant_file::week_minutes` meets its contract. Assumes nothing.
+use borrow.Author.Rules.{rules}
+use native.Mathlib.Omega.{arith}
+use Rattle.plant_file.proofs.PlantAccess.{held2, answer}
+use Rattle.plant_file.proofs.PlantInRange.{plant_ranges}
+use Rattle.plant_file.specs.Plant.{week_minutes_in}
+use Rattle.plant_file.proofs.week_minutes.Goals as goal
+
+pub returns : goal.returns
+unfolding week_minutes_in
+returns c =
+    let p = c.requires in
+    answer c.cell_in.ensures (plant_ranges _ _ p).week_most
+
+pub cell_in-requires : goal.cell_in-requires
+cell_in-requires c =
+    held2 c.requires 10 (search rules) {m = 2} (omega arith) (search rules)

@@ -1,0 +1,17 @@
+-- `slot_file::has_products` meets its contract: the loop has tried the slots below `j`. Assumes nothing.
+use borrow.Author.Rules.{rules}
+use native.Mathlib.Omega.{arith}
+use mathlib.Core.Path.{◌≡◌, ◌∙◌}
+use native.Mathlib.Numerals.{add-one}
+use Prim.Native.Nat.{◌≤◌, ◌-◌}
+use lib.Dec.{ltb}
+use Rattle.mathematics.specs.Below.{all_below}
+use Rattle.slot_file.specs.Slots.{slot_at}
+use Rattle.slot_file.proofs.SlotPlaces.{product_at_lem}
+use Rattle.slot_file.proofs.has_products.Given as goal
+
+abbrev pub invariant-loop-j : goal.invariant-loop-j
+invariant-loop-j l = (l.j ≤ l.total) × (l.ok ≡ all_below l.j (λ q. ltb (slot_at l.s q).product l.n))
+
+abbrev pub decreases-loop-j : goal.decreases-loop-j
+decreases-loop-j l = l.total - l.j

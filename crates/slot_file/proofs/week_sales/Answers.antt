@@ -1,0 +1,16 @@
+-- `slot_file::week_sales` meets its contract. Assumes nothing.
+use mathlib.Core.Path.{◌∙◌}
+use native.Mathlib.Nat.{div-add-mod'}
+use Rattle.slot_file.specs.Slots.{slots_of}
+use Rattle.slot_file.proofs.week_sales.Goals as goal
+
+pub returns : goal.returns
+unfolding slots_of
+returns c =
+    let s = c in
+    let r = c.pair_number.ensures in
+    (r.0 ∙ rw (s.requires.0.section, div-add-mod' s.args.row.pair s.args.f.products), r.1)
+
+pub pair_number-requires : goal.pair_number-requires
+pair_number-requires c =
+    (c.requires.0.row_of, c.requires.1)

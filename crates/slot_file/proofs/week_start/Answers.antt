@@ -1,0 +1,13 @@
+-- `slot_file::week_start` meets its contract. Assumes nothing.
+use borrow.Author.Rules.{rules}
+use native.Mathlib.Omega.{arith}
+use Rattle.slot_file.proofs.SlotPlaces.{counts_held}
+use Rattle.slot_file.proofs.SlotReads.{slot_good}
+use Rattle.slot_file.proofs.week_start.Goals as goal
+
+pub slots_before-requires : goal.slots_before-requires
+slots_before-requires c =
+    let s = c in
+    let a = s.args in
+    let all = counts_held a.f _ _ (slot_good a.f _ a.s.now s.requires.0).laid in
+    (record { width = all.width; listed = all.listed; few = all.few; fits = omega (arith, all.fits, s.requires.1) }, omega (arith, s.requires.1))

@@ -1,4 +1,6 @@
 // What is mounted on the line, what changeovers take, and what a week's grams are worth.
+#![tactic(auto)]
+
 ghost use Rattle.std.specs.Prelude.{◌*◌, ◌/◌, ◌%◌, ◌<◌, ◌≡◌};
 ghost use Rattle.sections.specs.declared.Form.TheVariants.{Good};
 ghost use Rattle.plant_file.specs.Plant.{plant_of};
@@ -13,7 +15,7 @@ use sections::{Shape, index2};
 use units::{Cents, Changeover, Minutes};
 
 // The product that the line is set up for.
-#[derive(Drop)]
+#[derive(Clone, Copy)]
 pub enum Mounted {
     Nothing,
     Product(u8),

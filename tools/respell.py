@@ -15,8 +15,8 @@ import sys
 
 # A word of antt: letters, digits, _, ', - and the marks of subscripts and primes.
 WORD = re.compile(r"(?<![\w'′-])[A-Za-z_μΛ][\w'′]*(?:-[\w'′]+)*(?![\w'′-])")
-# A declaration at the left margin, or a field of a record.
-DECLARED = re.compile(r"^(?:  )?(?:(?:pub|abbrev|unfoldable)\s+)*([A-Za-z_][\w'′-]*)\s+:\s+(.*)$", re.M)
+# A declaration at the left margin or in a section, or a field of a record.
+DECLARED = re.compile(r"^ *(?:(?:pub|abbrev|unfoldable)\s+)*([A-Za-z_][\w'′-]*)\s+:\s+(.*)$", re.M)
 # Names that Rattle asks for in a proof file: their type is a member of the generated module.
 GENERATED = re.compile(r"^(?:tie|goal|lts)\.")
 # Names of which another, in camel case, has the same words. A field of a record may have the name of another record's field; so may a field

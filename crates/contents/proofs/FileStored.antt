@@ -53,14 +53,14 @@ module _ (kind first : ℕ) (bodies : List (List ℕ)) where
 
   -- ---- as a writer does it, which knows the lengths
   module _ (lengths : List ℕ) (e : map length bodies ≡ lengths) where
-    pub contents-first : contents_bytes kind first lengths ≡ first_bodies 0
+    pub contents_first : contents_bytes kind first lengths ≡ first_bodies 0
     unfolding first_bodies
-    contents-first = ap (contents_bytes kind first) (sym e) ∙ sym (append-nil (contents_bytes kind first (map length bodies)))
+    contents_first = ap (contents_bytes kind first) (sym e) ∙ sym (append-nil (contents_bytes kind first (map length bodies)))
 
     -- the next body, stored at the start of the stretch that is lent
-    pub stretch-stored : (s out : List ℕ) (place from : ℕ) → out ≡ store s 0 (first_bodies place) → from ≡ start lengths place → from ≤ length out
+    pub stretch_stored : (s out : List ℕ) (place from : ℕ) → out ≡ store s 0 (first_bodies place) → from ≡ start lengths place → from ≤ length out
         → put_mid from (length out - from) out (store (mid_of from (length out - from) out) 0 (get_or bodies place []))
         ≡ store s 0 (first_bodies (place + 1))
-    stretch-stored s out place from o d l =
+    stretch_stored s out place from o d l =
         let there = d ∙ ap (λ (n : List ℕ). start n place) (sym e) in
         part_store out from (get_or bodies place []) l ∙ ((λ u. store (o u) (there u) (get_or bodies place [])) ∙ body_stored s place)

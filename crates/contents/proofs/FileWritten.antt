@@ -79,9 +79,9 @@ module _ (kind first : ℕ) (bodies : List (List ℕ)) where
         number_digits k F (2 + 9 * i + a) v
         (sym (part_part F (2 + 9 * i) a k 9 h) ∙ (ap (λ (x : List ℕ). part x a k) (entry_part i l) ∙ e)) b
 
-    pub offset-is : (i : ℕ) → i < count → offset F i ≡ start L i
+    pub offset_is : (i : ℕ) → i < count → offset F i ≡ start L i
     unfolding entry entry_at entry_bytes
-    offset-is i l = field i 1 4 (start L i) l (omega arith) refl (omega (arith, room i l))
+    offset_is i l = field i 1 4 (start L i) l (omega arith) refl (omega (arith, room i l))
 
     pub extent_is : (i : ℕ) → i < count → extent F i ≡ get_or L i 0
     unfolding entry entry_at entry_bytes
@@ -94,13 +94,13 @@ module _ (kind first : ℕ) (bodies : List (List ℕ)) where
         let byte : get_or F (2 + 9 * i) 0 ≡ first + i = omega (arith, rw (add-zero (2 + 9 * i)) at n) in
         byte
 
-    edge-is : (i : ℕ) → i ≤ count → edge F count i ≡ start L i
-    edge-is zero l = omega (arith, start_zero L, listed)
-    edge-is (suc i) l = omega (arith, offset-is i l, extent_is i l, start_next L i, add-one i, ap (start L) (add-one i))
+    edge_is : (i : ℕ) → i ≤ count → edge F count i ≡ start L i
+    edge_is zero l = omega (arith, start_zero L, listed)
+    edge_is (suc i) l = omega (arith, offset_is i l, extent_is i l, start_next L i, add-one i, ap (start L) (add-one i))
 
-    pub file-headed : headed F kind first count ≡ true
+    pub file_headed : headed F kind first count ≡ true
     unfolding file_of contents_bytes
-    file-headed =
+    file_headed =
         facts_headed F kind first count (record {
           long = omega (arith, length-append (contents_bytes kind first L) (join_below count (λ i. get_or bodies i [])), contents_length);
           kinds = omega arith;
@@ -108,16 +108,16 @@ module _ (kind first : ℕ) (bodies : List (List ℕ)) where
           numbers = number_is;
         })
 
-    pub file-placed : placed F count ≡ true
-    file-placed =
+    pub file_placed : placed F count ≡ true
+    file_placed =
         facts_placed F count (record {
-          begins = λ i l. offset-is i l ∙ sym (edge-is i (omega arith));
-          ends = edge-is count (omega arith) ∙ (ap (start L) (sym listed) ∙ sym file_length);
+          begins = λ i l. offset_is i l ∙ sym (edge_is i (omega arith));
+          ends = edge_is count (omega arith) ∙ (ap (start L) (sym listed) ∙ sym file_length);
         })
 
-    pub file-sized : sized F L ≡ true
-    file-sized = at_sized F L (λ i l. extent_is i (omega (arith, listed)))
+    pub file_sized : sized F L ≡ true
+    file_sized = at_sized F L (λ i l. extent_is i (omega (arith, listed)))
 
     -- each body is where the contents say
-    pub file-body : (i : ℕ) → i < count → part F (offset F i) (extent F i) ≡ get_or bodies i []
-    file-body i l = (λ u. part F (offset-is i l u) (extent_is i l u)) ∙ body_part i l
+    pub file_body : (i : ℕ) → i < count → part F (offset F i) (extent F i) ≡ get_or bodies i []
+    file_body i l = (λ u. part F (offset_is i l u) (extent_is i l u)) ∙ body_part i l

@@ -39,7 +39,7 @@ use Rattle.model.specs.Match.{Gives}
 use Rattle.model.specs.Rolled.{weeks_left, backlog_carried, rolled_shape, rolled_plant, later_slots}
 use Rattle.model.proofs.RolledTests.{left_is, is_left, none_left, carried_each, each_carried, not_carried, backlog_after_lem}
 use Rattle.model.proofs.RunStates.{mounted_below_lem}
-use Rattle.model.proofs.RuleFacts.{amounts-of}
+use Rattle.model.proofs.RuleFacts.{amounts_of}
 use Rattle.model.proofs.GivenPlans.{plan_agree, given_rules, given_inventory, given_backlog, given_mounted}
 use Rattle.model.proofs.Widths.{shown_fit}
 use Rattle.passed_plan.specs.declared.Judgement.{Judgement}
@@ -53,7 +53,7 @@ use Rattle.calls.specs.Answer.{Answer, bytes, refused, form_answer, judged_answe
 use Rattle.demands.specs.OpeningMounted.{Passes}
 use Rattle.demands.specs.RollOn.{RatesInRange, RollRefused, RolledOn, RollOn, OpeningBacklog, RollingOn}
 use Rattle.demands.proofs.ThirdDemandHolds.{check_passing}
-use Rattle.demands.proofs.RolledRuns.{opens-mounted, runs_on}
+use Rattle.demands.proofs.RolledRuns.{opens_mounted, runs_on}
 
 -- ---- answers of bytes, by their tests
 test_bytes : (n : ℕ) (t : Bool) (next : Answer) (b : List ℕ) → test_answer n t next ≡ bytes b → (t ≡ true) × (next ≡ bytes b)
@@ -106,14 +106,14 @@ module _ (plant : List ℕ) (f : Shape) (accepted : plant_form plant ≡ form.Go
     outside e = judged ∙ rw (none_left f.weeks k e) refl
 
     module _ (some : 1 ≤ k) (left : k < f.weeks) where
-      wrong-list : length rates ≢ 4 * f.products → roll_answer plant plan k rates ≡ refused 4
+      wrong_list : length rates ≢ 4 * f.products → roll_answer plant plan k rates ≡ refused 4
       unfolding roll_passed rates_form
-      wrong-list e = judged ∙ rw (is_left f.weeks k some left, ne_eqb (length rates) (4 * f.products) e) refl
+      wrong_list e = judged ∙ rw (is_left f.weeks k some left, ne_eqb (length rates) (4 * f.products) e) refl
 
-      wrong-rate : length rates ≡ 4 * f.products → (i : ℕ) → i < f.products → (listed_rate rates i ≡ 0) ⊎ (100000 < listed_rate rates i)
+      wrong_rate : length rates ≡ 4 * f.products → (i : ℕ) → i < f.products → (listed_rate rates i ≡ 0) ⊎ (100000 < listed_rate rates i)
           → roll_answer plant plan k rates ≡ refused 5
       unfolding roll_passed rates_form
-      wrong-rate e i l o =
+      wrong_rate e i l o =
           judged
           ∙ rw (
             is_left f.weeks k some left,
@@ -126,19 +126,19 @@ module _ (plant : List ℕ) (f : Shape) (accepted : plant_form plant ≡ form.Go
         good = rates_pass f rates long inside
 
         -- the backlog after week k
-        backlog-is : (c i : ℕ) → backlog_before P X k c i ≡ X.backlog c i (k - 1)
-        backlog-is c i = ap (λ (table : ℕ → ℕ → ℕ). table c i) (backlog_after_lem P X k some)
+        backlog_is : (c i : ℕ) → backlog_before P X k c i ≡ X.backlog c i (k - 1)
+        backlog_is c i = ap (λ (table : ℕ → ℕ → ℕ). table c i) (backlog_after_lem P X k some)
 
         too_much : (c i : ℕ) → c < f.customers → i < f.products → 1600000000 < X.backlog c i (k - 1) → roll_answer plant plan k rates ≡ refused 62
         unfolding roll_passed
         too_much c i j l o =
-            judged ∙ rw (is_left f.weeks k some left, good, not_carried P X k c i j l (omega (arith, backlog-is c i))) refl
+            judged ∙ rw (is_left f.weeks k some left, good, not_carried P X k c i j l (omega (arith, backlog_is c i))) refl
 
         written : ((c i : ℕ) → c < f.customers → i < f.products → X.backlog c i (k - 1) ≤ 1600000000)
             → (new : List ℕ) × (roll_answer plant plan k rates ≡ bytes new)
         unfolding roll_passed
         written b =
-            let carried = each_carried P X k (λ c i j l. omega (arith, backlog-is c i, b c i j l)) in
+            let carried = each_carried P X k (λ c i j l. omega (arith, backlog_is c i, b c i j l)) in
             (plant_file (rolled_plant P X k (listed_rate rates)), judged ∙ rw (is_left f.weeks k some left, good, carried) refl)
 
     -- ---- the file that it writes
@@ -171,7 +171,7 @@ module _ (plant : List ℕ) (f : Shape) (accepted : plant_form plant ≡ form.Go
         where
           go : (n : ℕ) → 1 ≤ n → n ≤ f.weeks → inventory_before P X n i ≤ most_storage
           go zero a b = absurd (omega arith)
-          go (suc n) a b = omega (arith, (amounts-of P X (given_rules R g) n b).storage_most i l, R.storage_most i l)
+          go (suc n) a b = omega (arith, (amounts_of P X (given_rules R g) n b).storage_most i l, R.storage_most i l)
 
       mark_most : (t : Bool) → cond t 1 0 ≤ 1
       mark_most true = omega arith
@@ -216,39 +216,39 @@ module _ (plant : List ℕ) (f : Shape) (accepted : plant_form plant ≡ form.Go
             week_most = R.week_most;
           }
 
-      good-file : plant_form new ≡ form.Good (rolled_shape f k)
+      good_file : plant_form new ≡ form.Good (rolled_shape f k)
       unfolding rolled_plant
-      good-file = rw tests.3 at (plant-file.file_good rolled ranges)
+      good_file = rw tests.3 at (plant-file.file_good rolled ranges)
 
       same : SamePlant rolled Q
       unfolding rolled_plant
       same = rw tests.3 at (plant-file.file_plant rolled ranges)
 
-      shut-same : rolled.line.shut_before ≡ Q.line.shut_before
+      shut_same : rolled.line.shut_before ≡ Q.line.shut_before
       unfolding rolled_plant
-      shut-same = rw tests.3 at (plant-file.shut_before_back rolled ranges)
+      shut_same = rw tests.3 at (plant-file.shut_before_back rolled ranges)
 
       -- the second byte, by the slots of week k
-      mark-exactly : (xs : List Slot) (y : WeekTables) → ((i : ℕ) → i < length xs → (get_or xs i no_slot).product < f.products)
+      mark_exactly : (xs : List Slot) (y : WeekTables) → ((i : ℕ) → i < length xs → (get_or xs i no_slot).product < f.products)
           → Agree f.products y (order_tables (order_of_slots xs)) → (◌≡◌ {A = ℕ} (cond (shut f.products y) 1 0) 1) ↔ (length xs ≡ 0)
-      mark-exactly [] y known a = rw (agree_shut f.products y a) (λ e. refl, λ e. refl)
-      mark-exactly (x ∷ xs) y known a =
+      mark_exactly [] y known a = rw (agree_shut f.products y a) (λ e. refl, λ e. refl)
+      mark_exactly (x ∷ xs) y known a =
           rw (agree_not_shut f.products y x.product (order_of_slots xs) (known 0 (omega arith)) a)
           (λ e. absurd (omega arith), λ e. absurd (omega arith))
 
-      rolled-on : RolledOn f.products f.customers f.weeks P S k rates Q
+      rolled_on : RolledOn f.products f.customers f.weeks P S k rates Q
       unfolding rolled_plant
-      rolled-on =
+      rolled_on =
           let last : k - 1 < f.weeks = omega (arith, left) in
           record {
             demand = λ c i w j l m. sym (same.demand c i w j l m);
             inventory = λ i l. sym (same.opening_inventory i l) ∙ given_inventory R g k i left l;
             backlog = λ c i j l. sym (same.opening_backlog c i j l) ∙ given_backlog R g k c i left j l;
-            mounted = opens-mounted f plant R S _ X g k left new (plant_ranges new (rolled_shape f k) good-file) (listed_rate rates) same;
+            mounted = opens_mounted f plant R S _ X g k left new (plant_ranges new (rolled_shape f k) good_file) (listed_rate rates) same;
             rate = λ i l. sym (same.rate i l);
-            shut_before = rw shut-same at
-                (mark-exactly (S.line.week (k - 1)) (week_of X.line (k - 1)) (g.formed (k - 1) last).product (plan_agree R g (k - 1) last));
-            shut_before_most = (plant_ranges new (rolled_shape f k) good-file).line.shut_before_most;
+            shut_before = rw shut_same at
+                (mark_exactly (S.line.week (k - 1)) (week_of X.line (k - 1)) (g.formed (k - 1) last).product (plan_agree R g (k - 1) last));
+            shut_before_most = (plant_ranges new (rolled_shape f k) good_file).line.shut_before_most;
             changeover_minutes = λ i j l m. sym (same.changeover_minutes i j l m);
             changeover_cents = λ i j l m. sym (same.changeover_cents i j l m);
             price = λ c i j l. sym (same.price c i j l);
@@ -261,9 +261,9 @@ module _ (plant : List ℕ) (f : Shape) (accepted : plant_form plant ≡ form.Go
           }
 
       -- ---- with the plant's own rates
-      own-rates : ((i : ℕ) → i < f.products → listed_rate rates i ≡ P.line.rate i) → SamePlant (rolled_plant P X k P.line.rate) Q
+      own_rates : ((i : ℕ) → i < f.products → listed_rate rates i ≡ P.line.rate i) → SamePlant (rolled_plant P X k P.line.rate) Q
       unfolding rolled_plant
-      own-rates e =
+      own_rates e =
           record {
             rate = λ i l. sym (e i l) ∙ same.rate i l;
             changeover_minutes = same.changeover_minutes;
@@ -282,9 +282,9 @@ module _ (plant : List ℕ) (f : Shape) (accepted : plant_form plant ≡ form.Go
           }
 
       -- the later slots fit their sections
-      later-fit : SlotsFit (rolled_shape f k) (later_slots k S)
+      later_fit : SlotsFit (rolled_shape f k) (later_slots k S)
       unfolding later_slots
-      later-fit =
+      later_fit =
           let fit = shown_fit R passed.binary passing.passes in
           record {
             formed = λ w l. fit.formed (k + w) (omega arith);
@@ -292,19 +292,19 @@ module _ (plant : List ℕ) (f : Shape) (accepted : plant_form plant ≡ form.Go
             sales = λ c i w j l m. fit.sales c i (k + w) j l (omega arith);
           }
 
-      roll-on : RollOn plant f plan k rates new
+      roll_on : RollOn plant f plan k rates new
       unfolding run_tables
-      roll-on =
+      roll_on =
           let r = rolled_shape f k in
           let small : (r.products < 256) × (r.customers < 256) × (r.weeks < 256) =
           (omega (arith, R.products_most), omega (arith, R.customers_most), omega (arith, R.weeks_most)) in
           record {
-            accepted = good-file;
-            rolled = rolled-on;
+            accepted = good_file;
+            rolled = rolled_on;
             runs_on = λ e. (
-              slot-file.file_good r (later_slots k S) small later-fit,
-              runs_on f plant R S _ X g k left new (plant_ranges new r good-file) (own-rates e) _
-                  (slot-file.file-slots r (later_slots k S) small later-fit),
+              slot-file.file_good r (later_slots k S) small later_fit,
+              runs_on f plant R S _ X g k left new (plant_ranges new r good_file) (own_rates e) _
+                  (slot-file.file_slots r (later_slots k S) small later_fit),
             );
             whole = sym g.same.profit;
           }
@@ -315,8 +315,8 @@ roll_refused : (plant : List ℕ) (f : Shape) → plant_form plant ≡ form.Good
 roll_refused plant f accepted plan k rates =
     record {
       outside_is_61 = λ h. outside plant f accepted plan h k rates;
-      list_is_4 = λ h a b. wrong-list plant f accepted plan h k rates a b;
-      rate_is_5 = λ h a b. wrong-rate plant f accepted plan h k rates a b;
+      list_is_4 = λ h a b. wrong_list plant f accepted plan h k rates a b;
+      rate_is_5 = λ h a b. wrong_rate plant f accepted plan h k rates a b;
       backlog_is_62 = λ h a b. too_much plant f accepted plan h k rates a b;
       otherwise = λ h a b. written plant f accepted plan h k rates a b;
     }
@@ -337,6 +337,6 @@ rolling_on plant =
     record {
       unchecked = λ plan k rates n e. judged_refused (judgement_of plant plan) _ n e;
       refusals = roll_refused plant;
-      writes = λ f accepted plan h k rates new. roll-on plant f accepted plan h k rates new;
+      writes = λ f accepted plan h k rates new. roll_on plant f accepted plan h k rates new;
       opening_backlog = opening_backlog plant;
     }

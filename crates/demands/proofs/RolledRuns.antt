@@ -32,9 +32,9 @@ use Rattle.model.proofs.Money.{both_more}
 use Rattle.model.proofs.Changeovers.{total_minutes, total_changeover}
 use Rattle.model.proofs.States.{mark, opening_inventory, opening_backlog, begin_ran}
 use Rattle.model.proofs.RunStates.{ran, mounted_below_lem, after_mounted, ran_clock, next_profit}
-use Rattle.model.proofs.RunStates.{ran-backlog, ran-inventory, after-backlog, after-inventory}
-use Rattle.model.proofs.Stops.{SlotsContinue, EndContinues, WeekContinues, run-continues}
-use Rattle.model.proofs.RunRules.{run-once}
+use Rattle.model.proofs.RunStates.{ran_backlog, ran_inventory, after_backlog, after_inventory}
+use Rattle.model.proofs.Stops.{SlotsContinue, EndContinues, WeekContinues, run_continues}
+use Rattle.model.proofs.RunRules.{run_once}
 use Rattle.model.proofs.GivenPlans.{continued, given_inventory, given_backlog, given_mounted}
 use Rattle.demands.specs.RollOn.{SameWeekEnd, RunsOn}
 use Rattle.demands.proofs.SamePlants.{to_same}
@@ -75,17 +75,17 @@ module _ (f : Shape) (plant : List ℕ) (R : PlantRanges (plant_of f plant)) (S 
 
     -- ---- it begins, at any rates, as the whole run is after k weeks
     module _ (rate : ℕ → ℕ) (same : SamePlant (rolled_plant P x k rate) Q) where
-      opens-inventory : (i : ℕ) → i < N → inventory_of (opening Q) i ≡ inventory_of (after P S k) i
+      opens_inventory : (i : ℕ) → i < N → inventory_of (opening Q) i ≡ inventory_of (after P S k) i
       unfolding rolled_plant
-      opens-inventory i l = opening_inventory Q R' i l ∙ (sym (same.opening_inventory i l) ∙ given_inventory R g k i few l)
+      opens_inventory i l = opening_inventory Q R' i l ∙ (sym (same.opening_inventory i l) ∙ given_inventory R g k i few l)
 
-      opens-backlog : (c i : ℕ) → c < C → i < N → backlog_of N (opening Q) c i ≡ backlog_of N (after P S k) c i
+      opens_backlog : (c i : ℕ) → c < C → i < N → backlog_of N (opening Q) c i ≡ backlog_of N (after P S k) c i
       unfolding rolled_plant
-      opens-backlog c i j l = opening_backlog Q R' c i j l ∙ (sym (same.opening_backlog c i j l) ∙ given_backlog R g k c i few j l)
+      opens_backlog c i j l = opening_backlog Q R' c i j l ∙ (sym (same.opening_backlog c i j l) ∙ given_backlog R g k c i few j l)
 
-      pub opens-mounted : opening_mounted Q.line ≡ mounted_at P S k
+      pub opens_mounted : opening_mounted Q.line ≡ mounted_at P S k
       unfolding rolled_plant
-      opens-mounted =
+      opens_mounted =
           opening_number N R.products_most Q.line (mounted_at P S k) (mounted_below_lem P S R.line k (λ w l. g.formed w (omega arith)))
           (sym same.mounted ∙ ap mounted_number (given_mounted R g k few))
 
@@ -95,29 +95,29 @@ module _ (f : Shape) (plant : List ℕ) (R : PlantRanges (plant_of f plant)) (S 
         abbrev w : ℕ
         w = k + n
 
-        week-same : T.line.week n ≡ S.line.week w
+        week_same : T.line.week n ≡ S.line.week w
         unfolding later_slots
-        week-same = slots.week n l
+        week_same = slots.week n l
 
-        sales-same : Same2 C N (λ c i. T.sales c i n) (λ c i. S.sales c i w)
+        sales_same : Same2 C N (λ c i. T.sales c i n) (λ c i. S.sales c i w)
         unfolding later_slots
-        sales-same c i j m = slots.sales c i n j m l
+        sales_same c i j m = slots.sales c i n j m l
 
-        old-formed : WeekFormed N (S.line.week w)
-        old-formed = g.formed w (omega arith)
+        old_formed : WeekFormed N (S.line.week w)
+        old_formed = g.formed w (omega arith)
 
-        new-formed : WeekFormed N (T.line.week n)
-        new-formed = rw week-same old-formed
+        new_formed : WeekFormed N (T.line.week n)
+        new_formed = rw week_same old_formed
 
-        old-continues : WeekContinues P S w
-        old-continues = (continued R g).0 w (omega arith)
+        old_continues : WeekContinues P S w
+        old_continues = (continued R g).0 w (omega arith)
 
-        made-same : (i : ℕ) → i < N → Q.line.rate i * minutes_of (T.line.week n) i ≡ P.line.rate i * minutes_of (S.line.week w) i
+        made_same : (i : ℕ) → i < N → Q.line.rate i * minutes_of (T.line.week n) i ≡ P.line.rate i * minutes_of (S.line.week w) i
         unfolding rolled_plant
-        made-same i m = λ u. sym (same.rate i m) u * minutes_of (week-same u) i
+        made_same i m = λ u. sym (same.rate i m) u * minutes_of (week_same u) i
 
         sold_same : (i : ℕ) → i < N → sum_below C (λ c. T.sales c i n) ≡ sum_below C (λ c. S.sales c i w)
-        sold_same i m = sum_ext C _ _ (λ c j. sales-same c i j m)
+        sold_same i m = sum_ext C _ _ (λ c j. sales_same c i j m)
 
         -- ---- where it starts alike, it ends alike
         module _ (start : SameWeekStart N C (after Q T n) (after P S w)) where
@@ -125,24 +125,24 @@ module _ (f : Shape) (plant : List ℕ) (R : PlantRanges (plant_of f plant)) (S 
               → total_changeover b (mounted_at Q T n) (order_of_slots (T.line.week n))
               ≡ total_changeover a (mounted_at P S w) (order_of_slots (S.line.week w))
           changeovers_same a b e =
-              (λ u. total_changeover b (start.mounted u) (order_of_slots (week-same u)))
+              (λ u. total_changeover b (start.mounted u) (order_of_slots (week_same u)))
               ∙ sym (total_same e (mounted_at P S w) (order_of_slots (S.line.week w))
-              (mounted_below_lem P S R.line w (λ v h. g.formed v (omega arith))) (order_below N (S.line.week w) old-formed))
+              (mounted_below_lem P S R.line w (λ v h. g.formed v (omega arith))) (order_below N (S.line.week w) old_formed))
 
-          clock-same : (ran Q T n).line.clock.0 ≡ (ran P S w).line.clock.0
+          clock_same : (ran Q T n).line.clock.0 ≡ (ran P S w).line.clock.0
           unfolding rolled_plant
-          clock-same =
+          clock_same =
               omega (
                 arith,
                 ran_clock Q T n,
                 ran_clock P S w,
-                ap total_minutes week-same,
+                ap total_minutes week_same,
                 changeovers_same P.line.changeover_minutes Q.line.changeover_minutes same.changeover_minutes,
               )
 
-          end-clock : (after Q T (suc n)).line.clock ≡ (after P S (suc w)).line.clock
+          end_clock : (after Q T (suc n)).line.clock ≡ (after P S (suc w)).line.clock
           unfolding week_done booked backlog_after inventory_after with_inventory with_backlog with_profit
-          end-clock = λ u. record { 0 = clock-same u }
+          end_clock = λ u. record { 0 = clock_same u }
 
           ends : SameWeekEnd N C (after Q T (suc n)) (after P S (suc w))
           unfolding rolled_plant
@@ -150,24 +150,24 @@ module _ (f : Shape) (plant : List ℕ) (R : PlantRanges (plant_of f plant)) (S 
               record {
                 inventory = λ i m. omega (
                   arith,
-                  after-inventory Q T R' n new-formed i m,
-                  after-inventory P S R w old-formed i m,
+                  after_inventory Q T R' n new_formed i m,
+                  after_inventory P S R w old_formed i m,
                   start.inventory i m,
-                  made-same i m,
+                  made_same i m,
                   sold_same i m,
                 );
                 backlog = λ c i j m. omega (
                   arith,
-                  after-backlog Q T R' n c i j m,
-                  after-backlog P S R w c i j m,
+                  after_backlog Q T R' n c i j m,
+                  after_backlog P S R w c i j m,
                   start.backlog c i j m,
                   same.demand c i n j m l,
-                  sales-same c i j m,
+                  sales_same c i j m,
                 );
-                clock = end-clock;
+                clock = end_clock;
                 mounted =
                     after_mounted Q T n
-                    ∙ ((λ u. last_of (start.mounted u) (order_of_slots (week-same u))) ∙ sym (after_mounted P S w));
+                    ∙ ((λ u. last_of (start.mounted u) (order_of_slots (week_same u))) ∙ sym (after_mounted P S w));
               }
 
           -- ---- it does not stop
@@ -177,35 +177,35 @@ module _ (f : Shape) (plant : List ℕ) (R : PlantRanges (plant_of f plant)) (S 
               record {
                 once = λ i m. omega (
                   arith,
-                  run-once P R S w old-formed old-continues i m,
-                  ap (λ (xs : List Slot). assigned_in (order_of_slots xs) i) week-same,
+                  run_once P R S w old_formed old_continues i m,
+                  ap (λ (xs : List Slot). assigned_in (order_of_slots xs) i) week_same,
                   ap mark (begin_ran Q R' (after Q T n) i m),
                 );
-                long = λ i m. rw (week-same, ← same.shortest_run) (old-continues.slots.long i m);
-                early = omega (arith, clock-same, old-continues.slots.early, same.week_minutes);
+                long = λ i m. rw (week_same, ← same.shortest_run) (old_continues.slots.long i m);
+                early = omega (arith, clock_same, old_continues.slots.early, same.week_minutes);
               }
 
           end_continues : EndContinues Q (week_input Q T n) (ran Q T n)
           unfolding rolled_plant
           end_continues =
-              let old = old-continues.ends in
+              let old = old_continues.ends in
               record {
                 due = λ c i j m. omega (
                   arith,
                   old.due c i j m,
-                  ran-backlog Q T R' n c i,
-                  ran-backlog P S R w c i,
+                  ran_backlog Q T R' n c i,
+                  ran_backlog P S R w c i,
                   start.backlog c i j m,
                   same.demand c i n j m l,
-                  sales-same c i j m,
+                  sales_same c i j m,
                 );
                 stocked = λ i m. omega (
                   arith,
                   old.stocked i m,
-                  ran-inventory Q T R' n new-formed i,
-                  ran-inventory P S R w old-formed i,
+                  ran_inventory Q T R' n new_formed i,
+                  ran_inventory P S R w old_formed i,
                   start.inventory i m,
-                  made-same i m,
+                  made_same i m,
                   sold_same i m,
                 );
                 least = λ i m. omega (arith, old.least i m, same.least_storage i m, ends.inventory i m);
@@ -219,7 +219,7 @@ module _ (f : Shape) (plant : List ℕ) (R : PlantRanges (plant_of f plant)) (S 
           earns z e =
               let over = ap changeover_charge_of (changeovers_same P.line.changeover_cents Q.line.changeover_cents same.changeover_cents) in
               let sales : revenue_of Q (λ c i. T.sales c i n) ≡ revenue_of P (λ c i. S.sales c i w) =
-              grid_ext C N _ _ (λ c i j m u. sym (same.price c i j m) u * sales-same c i j m u) in
+              grid_ext C N _ _ (λ c i j m u. sym (same.price c i j m) u * sales_same c i j m u) in
               let late : backlog_charge_of Q (backlog_of N (after Q T (suc n))) ≡ backlog_charge_of P (backlog_of N (after P S (suc w))) =
               grid_ext C N _ _ (λ c i j m u. sym (same.backlog_cost c i j m) u * ends.backlog c i j m u) in
               let held : inventory_charge_of Q (inventory_of (after Q T (suc n))) ≡ inventory_charge_of P (inventory_of (after P S (suc w))) =
@@ -232,24 +232,24 @@ module _ (f : Shape) (plant : List ℕ) (R : PlantRanges (plant_of f plant)) (S 
       starts zero l =
           let rate = P.line.rate in
           rw (add-zero k)
-          (record { inventory = opens-inventory rate same; backlog = opens-backlog rate same; mounted = opens-mounted rate same })
+          (record { inventory = opens_inventory rate same; backlog = opens_backlog rate same; mounted = opens_mounted rate same })
       starts (suc n) l =
           let e = ends n l (starts n (omega arith)) in
           rw (add-suc k n) (record { inventory = e.inventory; backlog = e.backlog; mounted = e.mounted })
 
-      never-stops : run Q T ≡ continues (after Q T left)
-      never-stops =
-          run-continues Q R' T new-formed (λ n l.
+      never_stops : run Q T ≡ continues (after Q T left)
+      never_stops =
+          run_continues Q R' T new_formed (λ n l.
           let b = starts n (omega arith) in record { slots = slots_continue n l b; ends = end_continues n l b })
 
       ends_same : (n : ℕ) → 1 ≤ n → n ≤ left → SameWeekEnd N C (after Q T n) (after P S (k + n))
       ends_same zero h l = absurd (omega arith)
       ends_same (suc n) h l = rw (add-suc k n) (ends n l (starts n (omega arith)))
 
-      profit-rest : (n : ℕ) → n ≤ left → (after P S k).profit.0 +ℤ (after Q T n).profit.0 ≡ (after P S (k + n)).profit.0
+      profit_rest : (n : ℕ) → n ≤ left → (after P S k).profit.0 +ℤ (after Q T n).profit.0 ≡ (after P S (k + n)).profit.0
       unfolding opening
-      profit-rest zero l = rw (add-zero k) (+ℤ_idr (after P S k).profit.0)
-      profit-rest (suc n) l = rw (add-suc k n) (earns n l (starts n (omega arith)) (after P S k).profit.0 (profit-rest n (omega arith)))
+      profit_rest zero l = rw (add-zero k) (+ℤ_idr (after P S k).profit.0)
+      profit_rest (suc n) l = rw (add-suc k n) (earns n l (starts n (omega arith)) (after P S k).profit.0 (profit_rest n (omega arith)))
 
   -- k = 0 too, for which nothing has run
   pub runs_on : k < f.weeks → (new : List ℕ) → PlantRanges (plant_of (rolled_shape f k) new)
@@ -258,7 +258,7 @@ module _ (f : Shape) (plant : List ℕ) (R : PlantRanges (plant_of f plant)) (S 
       → RunsOn P S k left (plant_of (rolled_shape f k) new) T
   runs_on few new R' same T slots =
       record {
-        runs = never-stops few new R' same T slots;
+        runs = never_stops few new R' same T slots;
         same = ends_same few new R' same T slots;
-        profit = profit-rest few new R' same T slots;
+        profit = profit_rest few new R' same T slots;
       }

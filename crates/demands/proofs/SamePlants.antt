@@ -78,17 +78,17 @@ module _ (f : Shape) (a b : List ℕ) (same : SamePlant (plant_of f a) (plant_of
 
   -- ---- slots
   module _ (x : Slot) (s : State) (k : x.product < f.products) (m : Mounts s) where
-    clock-same : clock_after P.line x s ≡ clock_after Q.line x s
+    clock_same : clock_after P.line x s ≡ clock_after Q.line x s
     unfolding clock_after
-    clock-same = rw (to_same same.changeover_minutes s.line.mounted x.product m k)
+    clock_same = rw (to_same same.changeover_minutes s.line.mounted x.product m k)
 
     slot_same : slot_done P.line x s ≡ slot_done Q.line x s
     unfolding slot_done
-    slot_same = rw (clock-same, same.rate x.product k, to_same same.changeover_cents s.line.mounted x.product m k)
+    slot_same = rw (clock_same, same.rate x.product k, to_same same.changeover_cents s.line.mounted x.product m k)
 
     step_same : slot_step P P.line x s ≡ slot_step Q Q.line x s
     unfolding slot_step slot_stops
-    step_same = rw (clock-same, slot_same, same.shortest_run, same.week_minutes)
+    step_same = rw (clock_same, slot_same, same.shortest_run, same.week_minutes)
 
   slots_same : (xs : List Slot) (s : State) → Known xs → Mounts s → slots_done P.line xs s ≡ slots_done Q.line xs s
   unfolding slot_done with_mounted with_line
@@ -133,14 +133,14 @@ module _ (f : Shape) (a b : List ℕ) (same : SamePlant (plant_of f a) (plant_of
         let backlog = table _ _ (λ c i j k. ap (λ (x : ℕ). x * backlog_of f.products s c i) (same.backlog_cost c i j k)) in
         rw (sales, backlog, sum_ext f.products _ _ (λ i k. ap (λ (x : ℕ). x * inventory_of s i) (same.inventory_cost i k)))
 
-    demand-same : Same2 f.customers f.products p.demand q.demand
-    demand-same c i j k = same.demand c i w j k l
+    demand_same : Same2 f.customers f.products p.demand q.demand
+    demand_same c i j k = same.demand c i w j k l
 
     done_same : (s : State) → week_done P p s ≡ week_done Q q s
     unfolding week_done inventory_after backlog_after
     done_same s =
         booked_same (backlog_after P p (inventory_after P p s))
-        ∙ ap (booked Q q) (backlog_same P p q demand-same (λ c i j k. refl) (inventory_after P p s))
+        ∙ ap (booked Q q) (backlog_same P p q demand_same (λ c i j k. refl) (inventory_after P p s))
 
     kept_same : (s : State) → storage_kept P s ≡ storage_kept Q s
     unfolding storage_kept
@@ -149,12 +149,12 @@ module _ (f : Shape) (a b : List ℕ) (same : SamePlant (plant_of f a) (plant_of
     end_same : (s : State) → week_end P p s ≡ week_end Q q s
     unfolding week_end inventory_after sales_in_stock sales_due
     end_same s =
-        let due = due_same P p q demand-same (λ c i j k. refl) s in
+        let due = due_same P p q demand_same (λ c i j k. refl) s in
         λ u. stepped (first_met (week_stops (due u) (sales_in_stock P p s) (kept_same (inventory_after P p s) u))) s (done_same s u)
 
-    week-alike : (s : State) → Mounts s → Alike (run_week P p s) (run_week Q q s) (week_done P p (ran_week P p s))
+    week_alike : (s : State) → Mounts s → Alike (run_week P p s) (run_week Q q s) (week_done P p (ran_week P p s))
     unfolding run_week ran_week week_begin with_week with_line week_end
-    week-alike s m =
+    week_alike s m =
         let t = ran_week P p s in
         let met = first_met (week_stops (sales_due P p t) (sales_in_stock P p t) (storage_kept P (inventory_after P p t))) in
         then_alike (week_end P p) (week_end Q q) (slots_alike (S.line.week w) (week_begin s) week_known m)
@@ -183,7 +183,7 @@ module _ (f : Shape) (a b : List ℕ) (same : SamePlant (plant_of f a) (plant_of
       → run_weeks P (week_input P S) left w (after P S w) ≡ run_weeks Q (week_input Q S) left w (after P S w)
   weeks_same zero w l = refl
   weeks_same (suc left) w l =
-      (week-alike w (omega arith) (after P S w) (before_mounts w (omega arith))).next
+      (week_alike w (omega arith) (after P S w) (before_mounts w (omega arith))).next
       (run_weeks P (week_input P S) left (w + 1)) (run_weeks Q (week_input Q S) left (w + 1))
       (rw add-one (weeks_same left (suc w) (omega arith)))
 

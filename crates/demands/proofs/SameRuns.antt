@@ -30,10 +30,10 @@ rows_ext (suc m) n f g l h =
     ∙ row_ext (m * n) n (f m) (g m) (update_rows m n g l) (λ i v k. h m i v (omega arith) k)
 
 -- ---- a week whose demand and sales are the same for the plant's customers and products
-module _ (P : Plant) (a b : WeekInput) (demand-same : Same2 P.customers P.products a.demand b.demand)
-    (sales-same : Same2 P.customers P.products a.sales b.sales) where
+module _ (P : Plant) (a b : WeekInput) (demand_same : Same2 P.customers P.products a.demand b.demand)
+    (sales_same : Same2 P.customers P.products a.sales b.sales) where
   sold_same : (i : ℕ) → i < P.products → sold_of P a i ≡ sold_of P b i
-  sold_same i k = sum_ext P.customers _ _ (λ c j. sales-same c i j k)
+  sold_same i k = sum_ext P.customers _ _ (λ c j. sales_same c i j k)
 
   inventory_same : (s : State) → inventory_after P a s ≡ inventory_after P b s
   unfolding inventory_after
@@ -43,7 +43,7 @@ module _ (P : Plant) (a b : WeekInput) (demand-same : Same2 P.customers P.produc
   unfolding backlog_after
   backlog_same s =
       ap (with_backlog s)
-      (rows_ext P.customers P.products _ _ s.backlog (λ c i v j k. λ u. v + demand-same c i j k u - sales-same c i j k u))
+      (rows_ext P.customers P.products _ _ s.backlog (λ c i v j k. λ u. v + demand_same c i j k u - sales_same c i j k u))
 
   booked_same : (s : State) → booked P a s ≡ booked P b s
   unfolding booked
@@ -51,7 +51,7 @@ module _ (P : Plant) (a b : WeekInput) (demand-same : Same2 P.customers P.produc
       let backlog = backlog_charge_of P (backlog_of P.products s) in
       let inventory = inventory_charge_of P (inventory_of s) in
       ap (λ (n : ℕ). with_profit s (s.profit.0 +ℤ pos n -ℤ pos backlog -ℤ pos inventory))
-      (grid_ext P.customers P.products _ _ (λ c i j k. ap (λ (x : ℕ). P.price c i * x) (sales-same c i j k)))
+      (grid_ext P.customers P.products _ _ (λ c i j k. ap (λ (x : ℕ). P.price c i * x) (sales_same c i j k)))
 
   done_same : (s : State) → week_done P a s ≡ week_done P b s
   unfolding week_done
@@ -63,7 +63,7 @@ module _ (P : Plant) (a b : WeekInput) (demand-same : Same2 P.customers P.produc
   unfolding sales_due
   due_same s =
       all_ext P.customers _ _ (λ c j. all_ext P.products _ _ (λ i k. λ u.
-      leb (sales-same c i j k u) (backlog_of P.products s c i + demand-same c i j k u)))
+      leb (sales_same c i j k u) (backlog_of P.products s c i + demand_same c i j k u)))
 
   stocked_same : (s : State) → sales_in_stock P a s ≡ sales_in_stock P b s
   unfolding sales_in_stock
@@ -77,19 +77,19 @@ module _ (P : Plant) (a b : WeekInput) (demand-same : Same2 P.customers P.produc
 -- ---- the run, and its tables
 module _ (P : Plant) (S T : Slots) (same : SameSlots (shape_of_plant P) S T) where
   module _ (w : ℕ) (l : w < P.weeks) where
-    week-done : (s : State) → week_done P (week_input P S w) s ≡ week_done P (week_input P T w) s
-    week-done = done_same P (week_input P S w) (week_input P T w) (λ c i j k. refl) (λ c i j k. same.sales c i w j k l)
+    week_done_lem : (s : State) → week_done P (week_input P S w) s ≡ week_done P (week_input P T w) s
+    week_done_lem = done_same P (week_input P S w) (week_input P T w) (λ c i j k. refl) (λ c i j k. same.sales c i w j k l)
 
-    week-end : (s : State) → week_end P (week_input P S w) s ≡ week_end P (week_input P T w) s
-    week-end = end_same P (week_input P S w) (week_input P T w) (λ c i j k. refl) (λ c i j k. same.sales c i w j k l)
+    week_end_lem : (s : State) → week_end P (week_input P S w) s ≡ week_end P (week_input P T w) s
+    week_end_lem = end_same P (week_input P S w) (week_input P T w) (λ c i j k. refl) (λ c i j k. same.sales c i w j k l)
 
-    week-same : (s : State) → run_week P (week_input P S w) s ≡ run_week P (week_input P T w) s
+    week_same : (s : State) → run_week P (week_input P S w) s ≡ run_week P (week_input P T w) s
     unfolding run_week
-    week-same s = λ u. and_then (run_slots P P.line (same.week w l u) (week_begin s)) (λ t. week-end t u)
+    week_same s = λ u. and_then (run_slots P P.line (same.week w l u) (week_begin s)) (λ t. week_end_lem t u)
 
   weeks_same : (left w : ℕ) → w + left ≤ P.weeks → (s : State) → run_weeks P (week_input P S) left w s ≡ run_weeks P (week_input P T) left w s
   weeks_same zero w h s = refl
-  weeks_same (suc left) w h s = λ u. and_then (week-same w (omega arith) s u) (λ t. weeks_same left (w + 1) (omega arith) t u)
+  weeks_same (suc left) w h s = λ u. and_then (week_same w (omega arith) s u) (λ t. weeks_same left (w + 1) (omega arith) t u)
 
   pub run_same : run P S ≡ run P T
   unfolding run
@@ -100,7 +100,7 @@ module _ (P : Plant) (S T : Slots) (same : SameSlots (shape_of_plant P) S T) whe
   after_same zero h = refl
   after_same (suc w) h =
       let e = after_same w (omega arith) in
-      week-done w h (ran_week P (week_input P S w) (after P S w))
+      week_done_lem w h (ran_week P (week_input P S w) (after P S w))
       ∙ (λ u. week_done P (week_input P T w) (slots_done P.line (same.week w h u) (week_begin (e u))))
 
   pub tables_same : SamePlan (shape_of_plant P) (run_tables P S) (run_tables P T)

@@ -29,7 +29,7 @@ use Rattle.rules.proofs.Weeks.{end_over, end_opening}
 use Rattle.rules.proofs.Words.{same_verdict}
 use Rattle.model.specs.RunTables.{minutes_of, line_tables, mounted_at, run_tables}
 use Rattle.model.specs.Match.{Gives}
-use Rattle.model.proofs.RuleFacts.{amounts-of}
+use Rattle.model.proofs.RuleFacts.{amounts_of}
 use Rattle.model.proofs.GivenPlans.{is_order_lem, plan_agree, given_rules}
 use Rattle.model.proofs.RunStates as run-states
 use Rattle.model.proofs.SmallPlantFacts.{small_plant_facts}
@@ -41,7 +41,7 @@ use Rattle.calls.specs.Check.{check_of}
 use Rattle.calls.specs.Answer.{bytes, slot_answer}
 use Rattle.demands.specs.ThirdDemand.{GivesFile}
 use Rattle.demands.specs.ShutWeeks.{ShutTables, ShutSales, IsShut, Produces, ShutWeeks}
-use Rattle.demands.proofs.ThirdDemandHolds.{given, slot-answer, third_demand}
+use Rattle.demands.proofs.ThirdDemandHolds.{given, slot_answer_lem, third_demand}
 
 -- slots of no product are none
 no-slots : (N : ℕ) (xs : List Slot) → ProductsBelow N (order_of_slots xs) → ((i : ℕ) → i < N → assigned_in (order_of_slots xs) i ≡ 0) → xs ≡ []
@@ -86,36 +86,36 @@ module _ (plant : List ℕ) (f : Shape) (accepted : plant_form plant ≡ Good f)
         no-slots f.products (S.line.week w) (order_below f.products (S.line.week w) (g.formed w l))
         (λ i k. sym ((plan_agree R g w l).assigned i k) ∙ none i k)
 
-    order-zero : NoProduct f.products (week_of X.line w)
+    order_zero : NoProduct f.products (week_of X.line w)
     unfolding week_of
-    order-zero =
+    order_zero =
         order.shut_zero f.products (week_of X.line w)
         (order.order_agree f.products (week_of X.line w) (order_of_slots (S.line.week w)) (is_order_lem R g w l) (plan_agree R g w l))
         (sum_zero f.products (X.line.assigned w) none)
 
-    production-zero : (i : ℕ) → i < f.products → X.production w i ≡ 0
+    production_zero : (i : ℕ) → i < f.products → X.production w i ≡ 0
     unfolding run_tables
-    production-zero i k =
+    production_zero i k =
         g.same.production w i l k ∙ (ap (λ (xs : List Slot). P.line.rate i * minutes_of xs i) no_slot ∙ omega arith)
 
-    shut-tables : ShutTables f.products X w
+    shut_tables : ShutTables f.products X w
     unfolding run_tables line_tables week_of
-    shut-tables =
+    shut_tables =
         record {
-          order = order-zero;
-          week_changeover = λ i j k m. between w l i j k m ∙ rw (order-zero.first j m) (omega arith);
+          order = order_zero;
+          week_changeover = λ i j k m. between w l i j k m ∙ rw (order_zero.first j m) (omega arith);
           minutes = λ i k. g.same.line.minutes w i l k ∙ ap (λ (xs : List Slot). minutes_of xs i) no_slot;
-          production = production-zero;
+          production = production_zero;
         }
 
-    shut-count : slot_count slots w ≡ 0
-    shut-count = sym (week_length f slots w) ∙ ap length no_slot
+    shut_count : slot_count slots w ≡ 0
+    shut_count = sym (week_length f slots w) ∙ ap length no_slot
 
-    shut-sales : ShutSales P X w
-    shut-sales =
-        let a = amounts-of P X (given_rules R g) w l in
+    shut_sales : ShutSales P X w
+    shut_sales =
+        let a = amounts_of P X (given_rules R g) w l in
         record {
-          inventory = λ i k. omega (arith, a.inventories i k, production-zero i k);
+          inventory = λ i k. omega (arith, a.inventories i k, production_zero i k);
           backlog = a.backlogs;
         }
 
@@ -139,8 +139,8 @@ module _ (plant : List ℕ) (f : Shape) (accepted : plant_form plant ≡ Good f)
   given_weeks : ShutWeeks plant f plan slots
   given_weeks =
       record {
-        shut_zero = λ w l none. (shut-tables w l none, shut-count w l none);
-        sales_happen = shut-sales;
+        shut_zero = λ w l none. (shut_tables w l none, shut_count w l none);
+        sales_happen = shut_sales;
         passage = passage;
         first_passage = λ o w l earlier i j k h. opening_passage Nothing o w l earlier i j k h ∙ omega arith;
         rule_31 = rule31_facts f.products;
@@ -157,6 +157,6 @@ pub shut_weeks : (plant : List ℕ) (f : Shape) → plant_form plant ≡ Good f 
     → (q : Profit) → check_of plant plan ≡ Passed q → (slots : List ℕ) → slot_answer plant plan ≡ bytes slots → ShutWeeks plant f plan slots
 shut_weeks plant f accepted plan b q e slots a =
     let r = (third_demand plant f accepted plan b).passes_exactly.0 (q, e) in
-    let alike = sym (slot-answer plant f accepted plan b r.0 r.1 r.2) ∙ a in
+    let alike = sym (slot_answer_lem plant f accepted plan b r.0 r.1 r.2) ∙ a in
     let same : r.0 ≡ slots = cc in
     rw same at (given_weeks plant f accepted plan b r.0 r.1 r.2)

@@ -93,7 +93,7 @@ module _ (plant : List ℕ) (f : Shape) (accepted : plant_form plant ≡ Good f)
     fits = run_fits R own
 
     same : SamePlan f X (run_tables P S)
-    same = rw g.gives at (plan-file.file-plan f (run_tables P S) small fits)
+    same = rw g.gives at (plan-file.file_plan f (run_tables P S) small fits)
 
     pub given : Gives P S s X
     given = record { formed = own.formed; runs = own.runs; same = same }
@@ -110,13 +110,13 @@ module _ (plant : List ℕ) (f : Shape) (accepted : plant_form plant ≡ Good f)
     shown : file ≡ slots
     shown = same_slots.same_file f shown_slots S (shown_slots_lem R given) ∙ sym (slots_is_file f slots g.bytes g.rows)
 
-    pub slot-answer : slot_answer plant plan ≡ bytes slots
+    pub slot_answer_lem : slot_answer plant plan ≡ bytes slots
     unfolding slot_answer
-    slot-answer = rw (passing_judged plant plan f s.profit passing, shown)
+    slot_answer_lem = rw (passing_judged plant plan f s.profit passing, shown)
 
-    plan-answer : plan_answer plant slots ≡ bytes plan
+    plan_answer_lem : plan_answer plant slots ≡ bytes plan
     unfolding plan_answer
-    plan-answer = rw (accepted, g.rows, g.runs, g.gives)
+    plan_answer_lem = rw (accepted, g.rows, g.runs, g.gives)
 
   -- ---- a plan that passes: the file of the slots that it shows gives it
   module _ (q : Profit) (e : check_of plant plan ≡ Passed q) where
@@ -130,10 +130,10 @@ module _ (plant : List ℕ) (f : Shape) (accepted : plant_form plant ≡ Good f)
     slots_fit = shown_fit R passed.binary passes.passes
 
     back : SameSlots f (slots_of f file) shown_slots
-    back = slot-file.file-slots f shown_slots small slots_fit
+    back = slot-file.file_slots f shown_slots small slots_fit
 
-    gives-file : GivesFile plant f file (after P shown_slots P.weeks) plan
-    gives-file =
+    gives_file : GivesFile plant f file (after P shown_slots P.weeks) plan
+    gives_file =
         record {
           bytes = slot-file.file_bytes f shown_slots;
           rows = slot-file.file_good f shown_slots small slots_fit;
@@ -147,12 +147,12 @@ module _ (plant : List ℕ) (f : Shape) (accepted : plant_form plant ≡ Good f)
   third_demand =
       record {
         passes_exactly = (
-          λ r. (file, after P shown_slots P.weeks, gives-file r.0 r.1),
+          λ r. (file, after P shown_slots P.weeks, gives_file r.0 r.1),
           λ r. (r.1.profit, passing_check r.1.profit (passing r.0 r.1 r.2)),
         );
         only_one = λ a c s t g h.
             (same_slots.slots_equal f a c g.bytes h.bytes g.rows h.rows).1 (one_slots R (given a s g) (given c t h));
-        slots_returned = λ slots s g out l. rw (slot-answer slots s g) (long_enough slots out (omega arith));
-        plan_again = λ slots s g out l. rw (plan-answer slots s g) (long_enough plan out (omega arith));
+        slots_returned = λ slots s g out l. rw (slot_answer_lem slots s g) (long_enough slots out (omega arith));
+        plan_again = λ slots s g out l. rw (plan_answer_lem slots s g) (long_enough plan out (omega arith));
         profit_of_run = λ slots s g. passing_check s.profit (passing slots s g);
       }

@@ -97,17 +97,17 @@ module _ {M : Type 1} {𝓤 : Ura M} (𝓛 : Logic 𝓤) where
   step_makes = structs.makes step.the_type step-laws.the_plain 𝓛
 
   module _ where
-    pub shape-lawful : Lawful 𝓛 shape.the_row
-    shape-lawful = structs.lawful shape.the_type shape-laws.the_laws 𝓛
+    pub shape_lawful : Lawful 𝓛 shape.the_row
+    shape_lawful = structs.lawful shape.the_type shape-laws.the_laws 𝓛
 
-    pub slot-lawful : Lawful 𝓛 slot.the_row
-    slot-lawful = structs.lawful slot.the_type slot_laws.the_laws 𝓛
+    pub slot_lawful : Lawful 𝓛 slot.the_row
+    slot_lawful = structs.lawful slot.the_type slot_laws.the_laws 𝓛
 
-    pub state-lawful : Lawful 𝓛 state.the_row
-    state-lawful = structs.lawful state.the_type state-laws.the_laws 𝓛
+    pub state_lawful : Lawful 𝓛 state.the_row
+    state_lawful = structs.lawful state.the_type state-laws.the_laws 𝓛
 
-    pub step-lawful : Lawful 𝓛 step.the_row
-    step-lawful = structs.lawful step.the_type step-laws.the_laws 𝓛
+    pub step_lawful : Lawful 𝓛 step.the_row
+    step_lawful = structs.lawful step.the_type step-laws.the_laws 𝓛
 
 -- ---- what the parameters own
 abbrev pub Plant : Lft → Bor (List ℕ) → Fml

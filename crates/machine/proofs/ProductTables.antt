@@ -44,9 +44,9 @@ module _ (P : Plant) (v : WeekInput) (s : State) (k : ℕ) (e : k ≡ P.products
     unfolding inventory_of inventory_after with_inventory
     next i l = row_first P.products (inventory_at P v) s.inventory room i l
 
-    pub kept-all : all_below k (kept_at P v s.inventory) ≡ storage_kept P (inventory_after P v s)
+    pub kept_all : all_below k (kept_at P v s.inventory) ≡ storage_kept P (inventory_after P v s)
     unfolding storage_kept
-    kept-all = rw e (all_ext P.products (kept_at P v s.inventory) _ (λ i l. rw (next i l)))
+    kept_all = rw e (all_ext P.products (kept_at P v s.inventory) _ (λ i l. rw (next i l)))
 
-    pub charge-all : sum_below k (new_charge_at P v s.inventory) ≡ inventory_charge_of P (inventory_of (inventory_after P v s))
-    charge-all = rw e (sum_ext P.products (new_charge_at P v s.inventory) _ (λ i l. rw (next i l)))
+    pub charge_all : sum_below k (new_charge_at P v s.inventory) ≡ inventory_charge_of P (inventory_of (inventory_after P v s))
+    charge_all = rw e (sum_ext P.products (new_charge_at P v s.inventory) _ (λ i l. rw (next i l)))

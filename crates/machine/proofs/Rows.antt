@@ -65,8 +65,8 @@ module _ (f : Shape) (plant : List ℕ) (row : List Slot) (s : State) (asks : Ru
       known : (slot_of (get_or row i none)).product < f.products
       known = subst (λ (x : FileSlot). x.product < f.products) found (asks.product i inside)
 
-      pub row-asks : Asked f plant (get_or row i none) r
-      row-asks = (
+      pub row_asks : Asked f plant (get_or row i none) r
+      row_asks = (
         asks.plant_good,
         known,
         subst (λ (x : FileSlot). x.minutes < 2 ^ 16) found (asks.minutes i inside),

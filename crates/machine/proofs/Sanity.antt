@@ -111,9 +111,9 @@ module _ (plant : List ℕ) (f : Shape) (good : plant_form plant ≡ Good f) whe
       }
 
   module _ (v : WeekInput) where
-    inventory-sane : {w k : ℕ} {s : State} → Sane f w k s → Sane f w k (inventory_after (plant_of f plant) v s)
+    inventory_sane : {w k : ℕ} {s : State} → Sane f w k s → Sane f w k (inventory_after (plant_of f plant) v s)
     unfolding inventory_after with_inventory inventory_of
-    inventory-sane {w} {k} {s} h =
+    inventory_sane {w} {k} {s} h =
         let g : ℕ → ℕ → ℕ = λ i before. before - sold_of (plant_of f plant) v i in
         let room : f.products ≤ length s.inventory = omega (arith, h.inventory_long, ranges.products_most) in
         record {
@@ -127,10 +127,10 @@ module _ (plant : List ℕ) (f : Shape) (good : plant_form plant ≡ Good f) whe
           mounted_below_lem = h.mounted_below_lem;
         }
 
-    backlog-sane : {w k : ℕ} {s : State} → ((c i : ℕ) → c < f.customers → i < f.products → v.demand c i ≤ most_demand) → Sane f w k s
+    backlog_sane : {w k : ℕ} {s : State} → ((c i : ℕ) → c < f.customers → i < f.products → v.demand c i ≤ most_demand) → Sane f w k s
         → Sane f (w + 1) k (backlog_after (plant_of f plant) v s)
     unfolding with_backlog inventory_of
-    backlog-sane {w} {k} {s} wanted h =
+    backlog_sane {w} {k} {s} wanted h =
         let n = f.customers * f.products in
         let g = backlog_at f.products v in
         let room : n ≤ length s.backlog = omega (arith, h.backlog_long, (counts plant f good).pairs) in
@@ -157,8 +157,8 @@ module _ (plant : List ℕ) (f : Shape) (good : plant_form plant ≡ Good f) whe
           (λ i q. let m : v.sales c i ≤ 4294967295 = omega (arith, small c i p q) in mul-le-mul (ranges.price_most c i p q) m))
 
       module _ (w : ℕ) (s : State) (l : w < f.weeks) where
-        backlog-charge-most : Sane f (w + 1) 16 s → backlog_charge_of (plant_of f plant) (backlog_of f.products s) ≤ 128 * (most_unit_cost * most_backlog)
-        backlog-charge-most h =
+        backlog_charge_most : Sane f (w + 1) 16 s → backlog_charge_of (plant_of f plant) (backlog_of f.products s) ≤ 128 * (most_unit_cost * most_backlog)
+        backlog_charge_most h =
             rw (charge_flat (plant_of f plant) s)
             (sum_few (most_unit_cost * most_backlog) (charge_at f.products (plant_of f plant) s) (counts plant f good).pairs
             (λ j q.
@@ -166,17 +166,17 @@ module _ (plant : List ℕ) (f : Shape) (good : plant_form plant ≡ Good f) whe
             let m : get_or s.backlog j 0 ≤ most_backlog = omega (arith, h.backlog_most j q, ranges.weeks_most) in
             mul-le-mul (ranges.backlog_cost_most _ _ p.row p.column) m))
 
-        inventory-charge-most : ((i : ℕ) → i < f.products → inventory_of s i ≤ most_storage)
+        inventory_charge_most : ((i : ℕ) → i < f.products → inventory_of s i ≤ most_storage)
             → inventory_charge_of (plant_of f plant) (inventory_of s) ≤ 16 * (most_unit_cost * most_storage)
-        inventory-charge-most kept =
+        inventory_charge_most kept =
             sum_few (most_unit_cost * most_storage) (λ i. (plant_of f plant).inventory_cost i * inventory_of s i) ranges.products_most
             (λ i q. mul-le-mul (ranges.inventory_cost_most i q) (kept i q))
 
         -- the amounts of a week, after its sales and within its storage
-        booked-sane : Sane f (w + 1) 16 s → ((i : ℕ) → i < f.products → inventory_of s i ≤ most_storage)
+        booked_sane : Sane f (w + 1) 16 s → ((i : ℕ) → i < f.products → inventory_of s i ≤ most_storage)
             → mag s.profit.0 ≤ w * most_week_money + 16 * (1000 * most_changeover_cents) → Sane f (w + 1) 0 (booked (plant_of f plant) v s)
         unfolding booked with_profit inventory_of
-        booked-sane h kept z =
+        booked_sane h kept z =
             let gains = revenue_of (plant_of f plant) v.sales in
             let late = backlog_charge_of (plant_of f plant) (backlog_of f.products s) in
             let held = inventory_charge_of (plant_of f plant) (inventory_of s) in
@@ -189,18 +189,18 @@ module _ (plant : List ℕ) (f : Shape) (good : plant_form plant ≡ Good f) whe
               inventory_most = λ i q. omega (arith, kept i q);
               backlog_most = h.backlog_most;
               clock_most = h.clock_most;
-              profit_most = omega (arith, revenue_most, backlog-charge-most h, inventory-charge-most kept);
+              profit_most = omega (arith, revenue_most, backlog_charge_most h, inventory_charge_most kept);
               ran_most = h.ran_most;
               mounted_below_lem = h.mounted_below_lem;
             }
 
       -- a week's end that does not stop
-      pub week-sane : {w : ℕ} {s : State} → w < f.weeks → ((c i : ℕ) → c < f.customers → i < f.products → v.demand c i ≤ most_demand) → Sane f w 16 s
+      pub week_sane : {w : ℕ} {s : State} → w < f.weeks → ((c i : ℕ) → c < f.customers → i < f.products → v.demand c i ≤ most_demand) → Sane f w 16 s
           → storage_kept (plant_of f plant) (inventory_after (plant_of f plant) v s) ≡ true → Sane f (w + 1) 0 (week_done (plant_of f plant) v s)
       unfolding week_done backlog_after inventory_after with_backlog with_inventory inventory_of
-      week-sane {w} {s} l wanted h kept =
+      week_sane {w} {s} l wanted h kept =
           let P = plant_of f plant in
-          booked-sane w (backlog_after P v (inventory_after P v s)) l (backlog-sane wanted (inventory-sane h))
+          booked_sane w (backlog_after P v (inventory_after P v s)) l (backlog_sane wanted (inventory_sane h))
           (λ i q. le_trans (storage_at_lem P (inventory_after P v s) kept i q).1 (ranges.storage_most i q)) h.profit_most
 
   -- a step that continues, by what it gives back
@@ -223,22 +223,22 @@ module _ (plant : List ℕ) (f : Shape) (good : plant_form plant ≡ Good f) whe
 
   -- a week, by what its slots give back, and by what it gives back
   module _ (S : Slots) (fit : SlotsFit f S) {w : ℕ} {s : State} (l : w < f.weeks) (h : Sane f w 0 s) where
-    pub week-slots-kept : (t : State) → run_slots (plant_of f plant) (plant_of f plant).line (S.line.week w) (week_begin s) ≡ continues t → Sane f w 16 t
-    week-slots-kept t e =
+    pub week_slots_kept : (t : State) → run_slots (plant_of f plant) (plant_of f plant).line (S.line.week w) (week_begin s) ≡ continues t → Sane f w 16 t
+    week_slots_kept t e =
         sane_more (slots_kept (S.line.week w) (fit.formed w l).product 0 (week_begin s) t (begin_sane h) e) (omega arith)
         (omega (arith, (fit.formed w l).few, (counts plant f good).products))
 
-    pub week-kept : (r : Step) → r ≡ run_week (plant_of f plant) (week_input (plant_of f plant) S w) s → r.outcome ≡ Continues → Sane f (w + 1) 0 r.state
+    pub week_kept : (r : Step) → r ≡ run_week (plant_of f plant) (week_input (plant_of f plant) S w) s → r.outcome ≡ Continues → Sane f (w + 1) 0 r.state
     unfolding run_week
-    week-kept r e q =
+    week_kept r e q =
         let P = plant_of f plant in
         let v = week_input P S w in
         let ran = run_slots P P.line v.slots (week_begin s) in
         let a = then_continued ran (week_end P v) r.state (sym e ∙ continued_step r q) in
         let g = week_continued P v ran.state r.state a.1 in
         rw g.0
-        (week-sane v (λ c i x y. fit.sales c i w x y l) l (λ c i x y. ranges.demand_most c i w x y l)
-        (week-slots-kept ran.state (continued_step ran a.0)) g.3)
+        (week_sane v (λ c i x y. fit.sales c i w x y l) l (λ c i x y. ranges.demand_most c i w x y l)
+        (week_slots_kept ran.state (continued_step ran a.0)) g.3)
 
   pub opening_sane : Sane f 0 0 (opening (plant_of f plant))
   unfolding opening inventory_of

@@ -98,9 +98,9 @@ module _ (P : Plant) (v : WeekInput) (s : State) where
 
   -- by the outcome of the three tests
   module _ (o : Outcome) (e : o ≡ first_met tries) where
-    pub week-stops : (n : ℕ) → o ≡ Stops n → record { state = s; outcome = o } ≡ week_end P v s
+    pub week_stops_lem : (n : ℕ) → o ≡ Stops n → record { state = s; outcome = o } ≡ week_end P v s
     unfolding week_end
-    week-stops n d = rw (← e, d)
+    week_stops_lem n d = rw (← e, d)
 
     pub week_continues : o ≡ Continues → week_end P v s ≡ continues (week_done P v s)
     unfolding week_end

@@ -16,7 +16,7 @@ use Rattle.mathematics.specs.Order.{order_at, is_order, position_in, order_table
 use Rattle.mathematics.proofs.Below.{sum_ext, sum_zero, term_le_sum, first_below_lem, is_same}
 use Rattle.mathematics.proofs.Sums.{length_list, get_d_list}
 use Rattle.mathematics.proofs.WeekRules.{WeekFacts, all_into, one_last, week_facts, facts_shut, not_shut}
-use Rattle.mathematics.proofs.WeekRules.{holds-once, holds32, holds34, facts_binary, facts_agree}
+use Rattle.mathematics.proofs.WeekRules.{holds_once, holds32, holds34, facts_binary, facts_agree}
 use Rattle.mathematics.proofs.WeekPositions.{some_first, position_some, position_only, agree_by_position}
 use Rattle.mathematics.proofs.OrderTables.{OrderFacts, order_facts, facts_order, position_index, position_means}
 use Rattle.mathematics.proofs.OrderTables.{order_count, order_week_facts}
@@ -91,7 +91,7 @@ facts_meet N x w =
         | yes e ↦
             (let none = facts_shut N x e (omega (arith, all_into w)) (omega (arith, one_last w, all_into w)) in
             rw none (or-true (one_each N x)))
-        | no d ↦ rw (holds-once N x w (some_first N x w (omega arith)))
+        | no d ↦ rw (holds_once N x w (some_first N x w (omega arith)))
       ];
       meets32 = holds32 N x w;
       meets34 = holds34 N x w;

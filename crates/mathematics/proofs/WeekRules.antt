@@ -220,9 +220,9 @@ module _ (N : ℕ) (x : WeekTables) where
 
   -- ---- from the facts to the tests
   module _ (w : WeekFacts N x) where
-    pub holds-once : sum_below N x.first ≡ 1 → one_each N x ≡ true
+    pub holds_once : sum_below N x.first ≡ 1 → one_each N x ≡ true
     unfolding one_each
-    holds-once e =
+    holds_once e =
         both_and _ _
         (facts_once N x.first x.assigned (e, λ i l e. omega (arith, w.into i l, w.assigned_bit i l)))
         (facts_once N x.last x.assigned (one_last w ∙ e, λ i l e. omega (arith, w.out i l, w.assigned_bit i l)))

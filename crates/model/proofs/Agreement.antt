@@ -19,8 +19,8 @@ use Rattle.model.specs.RunTables.{line_tables, run_tables}
 use Rattle.model.specs.Model.{Binary}
 use Rattle.model.specs.Match.{Gives, slots_shown}
 use Rattle.model.proofs.RuleFacts.{verdict_rules, rules_verdict}
-use Rattle.model.proofs.RunRules.{run-once}
-use Rattle.model.proofs.PlanRuns.{shown-gives}
+use Rattle.model.proofs.RunRules.{run_once}
+use Rattle.model.proofs.PlanRuns.{shown_gives}
 use Rattle.model.proofs.GivenPlans.{continued, is_order_lem, plan_agree, given_profit, given_rules, given_binary, same_slots}
 
 -- a plan that passes: the slots that it shows run without a stop and give it
@@ -28,7 +28,7 @@ pub passing_runs : {P : Plant} → PlantRanges P → {x : Plan} {q : Profit} →
     → Gives P (slots_shown P.products x) (after P (slots_shown P.products x) P.weeks) x × (x.profit ≡ q.0)
 passing_runs {P} R {x} {q} b e =
     let r = verdict_rules P x q e in
-    (shown-gives P x b r.0 R, r.1)
+    (shown_gives P x b r.0 R, r.1)
 
 -- a plan that slots give, by a run without a stop, passes with the profit of the run
 module _ {P : Plant} (R : PlantRanges P) {S : Slots} {s : State} {x : Plan} (g : Gives P S s x) where
@@ -48,7 +48,7 @@ one_slots {P} R {S} {T} g h =
           (uniqueness P.products (order_of_slots (S.line.week w)) (order_of_slots (T.line.week w)) (is_order_lem R g w l) (is_order_lem R h w l)
           (λ i k. sym ((plan_agree R g w l).position i k) ∙ (plan_agree R h w l).position i k))
           (order_below P.products (S.line.week w) (g.formed w l))
-          (run-once P R S w (g.formed w l) ((continued R g).0 w l))
+          (run_once P R S w (g.formed w l) ((continued R g).0 w l))
           (λ i k. sym (g.same.line.minutes w i l k) ∙ h.same.line.minutes w i l k);
       sales = λ c i w j k l. sym (g.same.sales c i w j k l) ∙ h.same.sales c i w j k l;
     }

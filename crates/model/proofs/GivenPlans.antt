@@ -26,22 +26,22 @@ use Rattle.model.specs.RunTables.{mounted_of, minutes_of, line_tables, mounted_a
 use Rattle.model.specs.Model.{Binary, AmountModel}
 use Rattle.model.specs.Match.{Gives}
 use Rattle.model.proofs.Changeovers.{mounted_bit, mounted_of_lem, no_minutes}
-use Rattle.model.proofs.RunStates.{mounted_below_lem, mounted_before_lem, after_profit, backlog-before, inventory-before}
-use Rattle.model.proofs.Stops.{WeekContinues, run-continued}
+use Rattle.model.proofs.RunStates.{mounted_below_lem, mounted_before_lem, after_profit, backlog_before_lem, inventory_before_lem}
+use Rattle.model.proofs.Stops.{WeekContinues, run_continued}
 use Rattle.model.proofs.RuleFacts.{RulesHold, Times, rules_hold}
 use Rattle.model.proofs.SamePlans.{SameTables, same_tables, week_agree, profit_same, plan_times_same, amounts_same, passages_same}
 use Rattle.model.proofs.SamePlans.{backlog_same, inventory_same}
-use Rattle.model.proofs.RunRules.{run-order, run-times, run-amounts, run-passages}
+use Rattle.model.proofs.RunRules.{run_order, run_times, run_amounts, run_passages}
 
 module _ {P : Plant} (R : PlantRanges P) {S : Slots} {s : State} {x : Plan} (g : Gives P S s x) where
   pub continued : ((w : ℕ) → w < P.weeks → WeekContinues P S w) × (after P S P.weeks ≡ s)
-  continued = run-continued P R S g.formed s g.runs
+  continued = run_continued P R S g.formed s g.runs
 
   tables : SameTables P x (run_tables P S)
   tables = same_tables g.same
 
   pub is_order_lem : (w : ℕ) → w < P.weeks → is_order P.products (order_of_slots (S.line.week w)) ≡ true
-  is_order_lem w l = run-order P R S w (g.formed w l) (continued.0 w l)
+  is_order_lem w l = run_order P R S w (g.formed w l) (continued.0 w l)
 
   pub plan_agree : (w : ℕ) → w < P.weeks → Agree P.products (week_of x.line w) (order_tables (order_of_slots (S.line.week w)))
   unfolding week_of run_tables line_tables
@@ -49,11 +49,11 @@ module _ {P : Plant} (R : PlantRanges P) {S : Slots} {s : State} {x : Plan} (g :
 
   -- what the plan has before a week is what the run has then
   pub given_inventory : (w i : ℕ) → w < P.weeks → i < P.products → inventory_before P x w i ≡ inventory_of (after P S w) i
-  given_inventory w i l k = inventory_same P x (run_tables P S) tables w i l k ∙ inventory-before P S R w i k
+  given_inventory w i l k = inventory_same P x (run_tables P S) tables w i l k ∙ inventory_before_lem P S R w i k
 
   pub given_backlog : (w c i : ℕ) → w < P.weeks → c < P.customers → i < P.products
       → backlog_before P x w c i ≡ backlog_of P.products (after P S w) c i
-  given_backlog w c i l j k = backlog_same P x (run_tables P S) tables w c i l j k ∙ backlog-before P S R w c i j k
+  given_backlog w c i l j k = backlog_same P x (run_tables P S) tables w c i l j k ∙ backlog_before_lem P S R w c i j k
 
   pub given_mounted : (w : ℕ) → w < P.weeks → mounted_of P.products (mounted_before P.products P.line x.line w) ≡ mounted_at P S w
   given_mounted w l =
@@ -65,11 +65,11 @@ module _ {P : Plant} (R : PlantRanges P) {S : Slots} {s : State} {x : Plan} (g :
   plan_meets w l = order_meets P.products (week_of x.line w) (order_of_slots (S.line.week w)) (is_order_lem w l) (plan_agree w l)
 
   amounts : (w : ℕ) → w < P.weeks → AmountModel P x w
-  amounts w l = amounts_same P x (run_tables P S) tables w l (run-amounts P R S w (g.formed w l) (continued.0 w l))
+  amounts w l = amounts_same P x (run_tables P S) tables w l (run_amounts P R S w (g.formed w l) (continued.0 w l))
 
   times : (w : ℕ) → w < P.weeks → Times P x w
   times w l =
-      plan_times_same P x (run_tables P S) tables w l (run-times P R S w (g.formed w l) (continued.0 w l) (λ u k. g.formed u (omega arith)))
+      plan_times_same P x (run_tables P S) tables w l (run_times P R S w (g.formed w l) (continued.0 w l) (λ u k. g.formed u (omega arith)))
 
   pub given_profit : x.profit ≡ s.profit.0
   unfolding run_tables
@@ -78,7 +78,7 @@ module _ {P : Plant} (R : PlantRanges P) {S : Slots} {s : State} {x : Plan} (g :
   pub given_rules : RulesHold P x
   unfolding run_tables
   given_rules =
-      rules_hold P x plan_meets (λ w l. passages_same tables.line P.line w l (run-passages P R S P.weeks g.formed w l)) times amounts
+      rules_hold P x plan_meets (λ w l. passages_same tables.line P.line w l (run_passages P R S P.weeks g.formed w l)) times amounts
       (g.same.profit ∙ (after_profit P S R.line P.weeks g.formed ∙ sym (profit_same P x (run_tables P S) tables P.weeks (omega arith))))
 
   facts : (w : ℕ) → w < P.weeks → WeekFacts P.products (week_of x.line w)

@@ -28,9 +28,9 @@ use Rattle.rules.specs.Verdict.{verdict_of}
 use Rattle.model.specs.Model.{sum_others, Binary, OrderModel, Model, objective}
 use Rattle.model.proofs.Grids.{sum_grid, grid_ext}
 use Rattle.model.proofs.Money.{lose_both}
-use Rattle.model.proofs.RuleFacts.{RulesHold, verdict_rules, rules_verdict, rules-times, amounts-of}
+use Rattle.model.proofs.RuleFacts.{RulesHold, verdict_rules, rules_verdict, rules_times, amounts_of}
 use Rattle.model.proofs.RuleFacts.{passage_facts, facts_passage, rules_hold, profit_of_lem}
-use Rattle.model.proofs.PlanRuns.{plan-facts}
+use Rattle.model.proofs.PlanRuns.{plan_facts}
 
 -- ---- sums
 -- where the term left out is 0
@@ -80,9 +80,9 @@ module _ (P : Plant) (R : PlantRanges P) where
           sum_add W within between,
         )
 
-    objective-profit : profit_of P x P.weeks ≡ objective P x
+    objective_profit : profit_of P x P.weeks ≡ objective P x
     unfolding objective profit_of revenue_in backlog_charge_in inventory_charge_in
-    objective-profit =
+    objective_profit =
         let W = P.weeks in
         let within = cents_under W x.line.changeover in
         let between = cents_under W x.line.week_changeover in
@@ -152,16 +152,16 @@ module _ (N : ℕ) (x : LinePlan) (w : ℕ) where
 -- ---- the whole plan
 module _ (P : Plant) (R : PlantRanges P) (x : Plan) where
   module _ (r : RulesHold P x) where
-    rules-profit : x.profit ≡ objective P x
-    rules-profit = profit_of_lem P x r ∙ objective-profit P R x
+    rules_profit : x.profit ≡ objective P x
+    rules_profit = profit_of_lem P x r ∙ objective_profit P R x
 
-    rules-model : Binary P x → Model P x
-    rules-model b =
+    rules_model : Binary P x → Model P x
+    rules_model b =
         record {
           binary = b;
-          order = λ w l. facts_model P.products x.line w (plan-facts P x b r w l);
-          times = rules-times P x r;
-          amounts = amounts-of P x r;
+          order = λ w l. facts_model P.products x.line w (plan_facts P x b r w l);
+          times = rules_times P x r;
+          amounts = amounts_of P x r;
           between = λ w l. passage_facts P.products P.line x.line w (r.r33 w l);
         }
 
@@ -171,19 +171,19 @@ module _ (P : Plant) (R : PlantRanges P) (x : Plan) where
         facts_meet P.products (week_of x.line w)
         (model_facts P.products x.line w (λ i. m.binary.assigned w i l) (λ i j. m.binary.changeover w i j l) (m.order w l))
 
-    model-holds : x.profit ≡ objective P x → RulesHold P x
-    model-holds e =
+    model_holds : x.profit ≡ objective P x → RulesHold P x
+    model_holds e =
         rules_hold P x meets (λ w l. facts_passage P.products P.line x.line w (m.between w l)) m.times m.amounts
-        (e ∙ sym (objective-profit P R x))
+        (e ∙ sym (objective_profit P R x))
 
 -- a plan of binary tables passes exactly where it meets the constraints of the model and its profit is the objective
 pub model_rules : {P : Plant} → PlantRanges P → {x : Plan} → Binary P x
     → ((q : Profit) × (verdict_of P x ≡ Passed q)) ↔ (Model P x × (x.profit ≡ objective P x))
 model_rules {P} R {x} b = (
-  λ r. (let h = (verdict_rules P x r.0 r.1).0 in (rules-model P R x h b, rules-profit P R x h)),
-  λ m. (record { 0 = x.profit }, rules_verdict P x (model-holds P R x m.0 m.1)),
+  λ r. (let h = (verdict_rules P x r.0 r.1).0 in (rules_model P R x h b, rules_profit P R x h)),
+  λ m. (record { 0 = x.profit }, rules_verdict P x (model_holds P R x m.0 m.1)),
 )
 
 -- the profit passed is the objective
 pub passed_objective : {P : Plant} → PlantRanges P → (x : Plan) {q : Profit} → verdict_of P x ≡ Passed q → q.0 ≡ objective P x
-passed_objective {P} R x {q} e = let r = verdict_rules P x q e in sym r.1 ∙ rules-profit P R x r.0
+passed_objective {P} R x {q} e = let r = verdict_rules P x q e in sym r.1 ∙ rules_profit P R x r.0

@@ -30,9 +30,9 @@ use Rattle.model.proofs.States.{mark, begin_ran, opening_inventory, opening_back
 use Rattle.model.proofs.Changeovers.{mounted_one, is_move, sum_minutes}
 use Rattle.model.proofs.Grids.{crossed}
 use Rattle.model.proofs.RunStates.{ran, mounted_below_lem, mounted_before_lem, changeover_total, ran_clock, after_profit}
-use Rattle.model.proofs.RunStates.{ran-backlog, ran-inventory, after-backlog, after-inventory}
-use Rattle.model.proofs.Stops.{SlotsContinue, EndContinues, run-continues}
-use Rattle.model.proofs.RuleFacts.{RulesHold, under_minutes, Times, rules-times, amounts-of, passage_facts, profit_of_lem}
+use Rattle.model.proofs.RunStates.{ran_backlog, ran_inventory, after_backlog, after_inventory}
+use Rattle.model.proofs.Stops.{SlotsContinue, EndContinues, run_continues}
+use Rattle.model.proofs.RuleFacts.{RulesHold, under_minutes, Times, rules_times, amounts_of, passage_facts, profit_of_lem}
 use Rattle.model.proofs.SamePlans.{SameTables, changeovers_same, profit_same}
 
 -- ---- the slots of an order
@@ -62,8 +62,8 @@ module _ (P : Plant) (x : Plan) (b : Binary P x) (r : RulesHold P x) where
           meets34 = r.r34 w l;
         }
 
-    pub plan-facts : WeekFacts P.products (week_of x.line w)
-    plan-facts = week_facts P.products (week_of x.line w) plan_meets
+    pub plan_facts : WeekFacts P.products (week_of x.line w)
+    plan_facts = week_facts P.products (week_of x.line w) plan_meets
 
     -- the order of the slots shown
     order_is : order_of_slots (S.line.week w) ≡ order_of P.products (week_of x.line w)
@@ -78,22 +78,22 @@ module _ (P : Plant) (x : Plan) (b : Binary P x) (r : RulesHold P x) where
     plan_agree = rw order_is (shown_tables P.products (week_of x.line w) plan_meets)
 
     amounts : AmountModel P x w
-    amounts = amounts-of P x r w l
+    amounts = amounts_of P x r w l
 
     times : Times P x w
-    times = rules-times P x r w l
+    times = rules_times P x r w l
 
     -- no minutes where a product is not assigned
-    minutes-assigned : (i : ℕ) → i < P.products → x.line.minutes w i ≡ x.line.assigned w i * x.line.minutes w i
-    minutes-assigned i k = elim (ℕ_discrete (x.line.assigned w i) 0) [
+    minutes_assigned : (i : ℕ) → i < P.products → x.line.minutes w i ≡ x.line.assigned w i * x.line.minutes w i
+    minutes_assigned i k = elim (ℕ_discrete (x.line.assigned w i) 0) [
       | yes e ↦ rw e (omega (arith, rw e at (times.longest_run i k)))
       | no d ↦ (let e : x.line.assigned w i ≡ 1 = omega (arith, b.assigned w i l k) in rw e (omega arith))
     ]
 
-    minutes-same : (i : ℕ) → i < P.products → x.line.minutes w i ≡ minutes_of (S.line.week w) i
+    minutes_same : (i : ℕ) → i < P.products → x.line.minutes w i ≡ minutes_of (S.line.week w) i
     unfolding slots_shown line_shown week_of
-    minutes-same i k =
-        minutes-assigned i k
+    minutes_same i k =
+        minutes_assigned i k
         ∙ (ap (λ (u : ℕ). u * x.line.minutes w i) (plan_agree.assigned i k ∙ ap (λ (ps : List ℕ). assigned_in ps i) order_is)
         ∙ sym (minutes_for (x.line.minutes w) (order_of P.products (week_of x.line w)) i))
 
@@ -106,7 +106,7 @@ module _ (P : Plant) (x : Plan) (b : Binary P x) (r : RulesHold P x) where
           few = omega (
             arith,
             theorem.order_length P.products (week_of x.line w),
-            sum_mono P.products (x.line.assigned w) (λ i. 1) plan-facts.assigned_bit,
+            sum_mono P.products (x.line.assigned w) (λ i. 1) plan_facts.assigned_bit,
             sum_const P.products 1,
           );
           product = λ k h. rw (← (order_at_lem (S.line.week w) k)) (shown.below k (omega arith));
@@ -128,35 +128,35 @@ module _ (P : Plant) (x : Plan) (b : Binary P x) (r : RulesHold P x) where
         mounted_one P.products (mounted_at P S w) (mounted_below_lem P S R w (λ u a. formed u (omega arith))),
       ) in
       crossed P.products (x.line.first w) (mounted_before P.products P.line x.line w) (x.line.week_changeover w)
-      (plan-facts w l).one_first one h.into_first h.out_of_mounted i j k m
+      (plan_facts w l).one_first one h.into_first h.out_of_mounted i j k m
       ∙ (λ u. before i k u * (plan_agree w l).first j m u)
 
   module _ (R : PlantRanges P) where
     -- ---- the states by the plan's tables
-    backlog-is : (n : ℕ) → n ≤ P.weeks → (c i : ℕ) → c < P.customers → i < P.products
+    backlog_is : (n : ℕ) → n ≤ P.weeks → (c i : ℕ) → c < P.customers → i < P.products
         → backlog_of P.products (after P S n) c i ≡ backlog_before P x n c i
     unfolding backlog_before slots_shown
-    backlog-is zero l c i j k = opening_backlog P R c i j k
-    backlog-is (suc n) l c i j k =
+    backlog_is zero l c i j k = opening_backlog P R c i j k
+    backlog_is (suc n) l c i j k =
         omega (
           arith,
           (amounts n (omega arith)).backlogs c i j k,
-          after-backlog P S R n c i j k,
-          backlog-is n (omega arith) c i j k,
+          after_backlog P S R n c i j k,
+          backlog_is n (omega arith) c i j k,
         )
 
-    inventory-is : (n : ℕ) → n ≤ P.weeks → (i : ℕ) → i < P.products → inventory_of (after P S n) i ≡ inventory_before P x n i
+    inventory_is : (n : ℕ) → n ≤ P.weeks → (i : ℕ) → i < P.products → inventory_of (after P S n) i ≡ inventory_before P x n i
     unfolding inventory_before slots_shown
-    inventory-is zero l i k = opening_inventory P R i k
-    inventory-is (suc n) l i k =
+    inventory_is zero l i k = opening_inventory P R i k
+    inventory_is (suc n) l i k =
         let m = amounts n (omega arith) in
         omega (
           arith,
           m.inventories i k,
           m.produced i k,
-          after-inventory P S R n (formed n (omega arith)) i k,
-          inventory-is n (omega arith) i k,
-          ap (λ (u : ℕ). P.line.rate i * u) (minutes-same n (omega arith) i k),
+          after_inventory P S R n (formed n (omega arith)) i k,
+          inventory_is n (omega arith) i k,
+          ap (λ (u : ℕ). P.line.rate i * u) (minutes_same n (omega arith) i k),
         )
 
     -- ---- the run's tables are the plan's
@@ -171,12 +171,12 @@ module _ (P : Plant) (x : Plan) (b : Binary P x) (r : RulesHold P x) where
             changeover = λ w i j l k m. (plan_agree w l).changeover i k j m;
             week_changeover = λ w i j l k m. between_same R.line w l i j k m;
             position = λ w i l k. (plan_agree w l).position i k;
-            minutes = λ w i l k. minutes-same w l i k;
+            minutes = λ w i l k. minutes_same w l i k;
           };
-          production = λ w i l k. (amounts w l).produced i k ∙ ap (λ (u : ℕ). P.line.rate i * u) (minutes-same w l i k);
+          production = λ w i l k. (amounts w l).produced i k ∙ ap (λ (u : ℕ). P.line.rate i * u) (minutes_same w l i k);
           sales = λ c i w j k l. refl;
-          inventory = λ w i l k. sym (inventory-is (suc w) l i k);
-          backlog = λ c i w j k l. sym (backlog-is (suc w) l c i j k);
+          inventory = λ w i l k. sym (inventory_is (suc w) l i k);
+          backlog = λ c i w j k l. sym (backlog_is (suc w) l c i j k);
         }
 
     profit : x.profit ≡ (after P S P.weeks).profit.0
@@ -193,14 +193,14 @@ module _ (P : Plant) (x : Plan) (b : Binary P x) (r : RulesHold P x) where
         let f = formed w l in
         record {
           once = λ i k. omega (arith, b.assigned w i l k, (plan_agree w l).assigned i k, ap mark (begin_ran P R (after P S w) i k));
-          long = λ i k. rw (sym ((plan_agree w l).assigned i k), sym (minutes-same w l i k)) (t.shortest_run i k);
+          long = λ i k. rw (sym ((plan_agree w l).assigned i k), sym (minutes_same w l i k)) (t.shortest_run i k);
           early = omega (
             arith,
             t.time,
             under_minutes P.products P.line x.line w P.line.changeover_minutes,
             ran_clock P S w,
             sum_minutes P.products (S.line.week w) (order_below P.products (S.line.week w) f),
-            sum_ext P.products (x.line.minutes w) (minutes_of (S.line.week w)) (minutes-same w l),
+            sum_ext P.products (x.line.minutes w) (minutes_of (S.line.week w)) (minutes_same w l),
             changeovers_same tables.line w l P.line.changeover_minutes,
             changeover_total P S R.line P.line.changeover_minutes w (λ u k. formed u (omega arith)) f,
           );
@@ -211,25 +211,25 @@ module _ (P : Plant) (x : Plan) (b : Binary P x) (r : RulesHold P x) where
     end_continues w l =
         let n = amounts w l in
         record {
-          due = λ c i j k. omega (arith, n.backlogs c i j k, ran-backlog P S R w c i, backlog-is w (omega arith) c i j k);
+          due = λ c i j k. omega (arith, n.backlogs c i j k, ran_backlog P S R w c i, backlog_is w (omega arith) c i j k);
           stocked = λ i k. omega (
             arith,
             n.inventories i k,
             n.produced i k,
-            ran-inventory P S R w (formed w l) i,
-            inventory-is w (omega arith) i k,
-            ap (λ (u : ℕ). P.line.rate i * u) (minutes-same w l i k),
+            ran_inventory P S R w (formed w l) i,
+            inventory_is w (omega arith) i k,
+            ap (λ (u : ℕ). P.line.rate i * u) (minutes_same w l i k),
           );
-          least = λ i k. omega (arith, n.storage_least i k, inventory-is (suc w) l i k);
-          most = λ i k. omega (arith, n.storage_most i k, inventory-is (suc w) l i k);
+          least = λ i k. omega (arith, n.storage_least i k, inventory_is (suc w) l i k);
+          most = λ i k. omega (arith, n.storage_most i k, inventory_is (suc w) l i k);
         }
 
-    pub shown-gives : Gives P S (after P S P.weeks) x
+    pub shown_gives : Gives P S (after P S P.weeks) x
     unfolding run_tables
-    shown-gives =
+    shown_gives =
         record {
           formed = λ w l. formed w l;
-          runs = run-continues P R S (λ w l. formed w l) (λ w l. record { slots = slots_continue w l; ends = end_continues w l });
+          runs = run_continues P R S (λ w l. formed w l) (λ w l. record { slots = slots_continue w l; ends = end_continues w l });
           same = record {
             line = tables.line;
             production = tables.production;

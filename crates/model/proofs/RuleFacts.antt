@@ -131,9 +131,9 @@ module _ (N : ℕ) (l : LinePlant) (x : LinePlan) (w : ℕ) where
 
   -- 35 and 36
   module _ (shortest week : ℕ) where
-    times-of : rule35 N shortest week x w ≡ true → rule36 N week l x w ≡ true → TimeModel N shortest week l x w
+    times_of : rule35 N shortest week x w ≡ true → rule36 N week l x w ≡ true → TimeModel N shortest week l x w
     unfolding rule35 rule36
-    times-of h k =
+    times_of h k =
         let t = all_within N (λ i. shortest * x.assigned w i) (x.minutes w) (λ i. week * x.assigned w i) h in
         record {
           shortest_run = λ i m. (t i m).0;
@@ -156,12 +156,12 @@ Times P x w = TimeModel P.products P.shortest_run P.week_minutes P.line x.line w
 -- ---- 37 to 40
 module _ (P : Plant) (x : Plan) where
   module _ (r : RulesHold P x) (w : ℕ) (l : w < P.weeks) where
-    pub rules-times : Times P x w
-    rules-times = times-of P.products P.line x.line w P.shortest_run P.week_minutes (r.r35 w l) (r.r36 w l)
+    pub rules_times : Times P x w
+    rules_times = times_of P.products P.line x.line w P.shortest_run P.week_minutes (r.r35 w l) (r.r36 w l)
 
-    pub amounts-of : AmountModel P x w
+    pub amounts_of : AmountModel P x w
     unfolding rule37 rule38 rule39 rule40
-    amounts-of =
+    amounts_of =
         let v = all_within P.products P.least_storage (x.inventory w) P.greatest_storage (r.r40 w l) in
         record {
           produced = all_equal P.products (x.production w) (λ i. P.line.rate i * x.line.minutes w i) (r.r37 w l);

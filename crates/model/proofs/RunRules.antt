@@ -20,7 +20,7 @@ use Rattle.model.specs.Model.{AmountModel}
 use Rattle.model.proofs.Grids.{columns_sum, rows_sum}
 use Rattle.model.proofs.Changeovers.{total_minutes, total_changeover, no_minutes, minutes_part, sum_minutes}
 use Rattle.model.proofs.RunStates.{FormedTo, mounted_before_lem, changeover_total, ran_clock}
-use Rattle.model.proofs.RunStates.{backlog-before, inventory-before, ran-backlog, ran-inventory, after-backlog, after-inventory}
+use Rattle.model.proofs.RunStates.{backlog_before_lem, inventory_before_lem, ran_backlog, ran_inventory, after_backlog, after_inventory}
 use Rattle.model.proofs.Stops.{WeekContinues}
 use Rattle.model.proofs.RuleFacts.{under_minutes, facts_passage, Times}
 
@@ -30,11 +30,11 @@ module _ (P : Plant) (R : PlantRanges P) (S : Slots) where
     abbrev xs : List Slot
     xs = S.line.week w
 
-    pub run-once : (i : ℕ) → i < P.products → assigned_in (order_of_slots xs) i ≤ 1
-    run-once i l = omega (arith, h.slots.once i l)
+    pub run_once : (i : ℕ) → i < P.products → assigned_in (order_of_slots xs) i ≤ 1
+    run_once i l = omega (arith, h.slots.once i l)
 
-    pub run-order : is_order P.products (order_of_slots xs) ≡ true
-    run-order = an_order P.products (order_of_slots xs) (order_below P.products xs f) run-once
+    pub run_order : is_order P.products (order_of_slots xs) ≡ true
+    run_order = an_order P.products (order_of_slots xs) (order_below P.products xs f) run_once
 
     pub clock : total_minutes xs + total_changeover P.line.changeover_minutes (mounted_at P S w) (order_of_slots xs) ≤ P.week_minutes
     unfolding ran_week
@@ -44,13 +44,13 @@ module _ (P : Plant) (R : PlantRanges P) (S : Slots) where
     longest i l = elim (ℕ_discrete (assigned_in (order_of_slots xs) i) 0) [
       | yes e ↦ omega (arith, no_minutes xs i e)
       | no d ↦
-          (let e : assigned_in (order_of_slots xs) i ≡ 1 = omega (arith, run-once i l) in
+          (let e : assigned_in (order_of_slots xs) i ≡ 1 = omega (arith, run_once i l) in
           rw e (omega (arith, minutes_part xs i, clock)))
     ]
 
-    pub run-times : FormedTo P S w → Times P (run_tables P S) w
+    pub run_times : FormedTo P S w → Times P (run_tables P S) w
     unfolding run_tables line_tables
-    run-times g =
+    run_times g =
         let x = (run_tables P S).line in
         record {
           shortest_run = h.slots.long;
@@ -64,18 +64,18 @@ module _ (P : Plant) (R : PlantRanges P) (S : Slots) where
           );
         }
 
-    pub run-amounts : AmountModel P (run_tables P S) w
+    pub run_amounts : AmountModel P (run_tables P S) w
     unfolding run_tables line_tables
-    run-amounts =
+    run_amounts =
         record {
           produced = λ i k. refl;
-          backlogs = λ c i j k. omega (arith, h.ends.due c i j k, ran-backlog P S R w c i, backlog-before P S R w c i j k, after-backlog P S R w c i j k);
+          backlogs = λ c i j k. omega (arith, h.ends.due c i j k, ran_backlog P S R w c i, backlog_before_lem P S R w c i j k, after_backlog P S R w c i j k);
           inventories = λ i k. omega (
             arith,
             h.ends.stocked i k,
-            ran-inventory P S R w f i,
-            inventory-before P S R w i k,
-            after-inventory P S R w f i k,
+            ran_inventory P S R w f i,
+            inventory_before_lem P S R w i k,
+            after_inventory P S R w f i k,
           );
           storage_least = h.ends.least;
           storage_most = h.ends.most;
@@ -83,9 +83,9 @@ module _ (P : Plant) (R : PlantRanges P) (S : Slots) where
 
   -- ---- 33
   module _ (n : ℕ) (f : FormedTo P S n) where
-    pub run-passages : (w : ℕ) → w < n → rule33 P.products P.line (run_tables P S).line w ≡ true
+    pub run_passages : (w : ℕ) → w < n → rule33 P.products P.line (run_tables P S).line w ≡ true
     unfolding run_tables line_tables week_of
-    run-passages w l =
+    run_passages w l =
         let x = line_tables (mounted_at P S) S.line in
         let first = first_in (order_of_slots (S.line.week w)) in
         let before = mounted_before P.products P.line x w in

@@ -33,7 +33,7 @@ use Rattle.rules.proofs.Weeks.{mounted_next}
 use Rattle.costs.specs.Mounted.{is_mounted}
 use Rattle.model.specs.RunTables.{last_of, minutes_of, line_tables, mounted_at, run_tables}
 use Rattle.model.proofs.States.{Lengths, opening_lengths, begin_lengths, slot_lengths_lem, week_lengths}
-use Rattle.model.proofs.States.{opening_inventory, opening_backlog, slot-inventory, week-inventory, week-backlog, week_profit}
+use Rattle.model.proofs.States.{opening_inventory, opening_backlog, slot_inventory, week_inventory, week_backlog, week_profit}
 use Rattle.model.proofs.Money.{lose_both, week_more}
 use Rattle.model.proofs.Changeovers.{last_below, is_move, total_minutes, total_changeover, sum_changeovers}
 
@@ -76,7 +76,7 @@ slots_inventory P R (x ∷ xs) s h k i =
     omega (
       arith,
       slots_inventory P R xs (slot_done P.line x s) (slot_lengths_lem P.line x h) (λ u l. k (suc u) (omega arith)) i,
-      slot-inventory P R x s h (k 0 (omega arith)) i,
+      slot_inventory P R x s h (k 0 (omega arith)) i,
       is_move (λ j. P.line.rate j * x.minutes) x.product i,
     )
 
@@ -181,34 +181,34 @@ module _ (P : Plant) (S : Slots) where
   -- ---- backlog and inventory
   module _ (R : PlantRanges P) where
     -- before a week
-    pub backlog-before : (w c i : ℕ) → c < P.customers → i < P.products → backlog_before P (run_tables P S) w c i ≡ backlog_of P.products (after P S w) c i
+    pub backlog_before_lem : (w c i : ℕ) → c < P.customers → i < P.products → backlog_before P (run_tables P S) w c i ≡ backlog_of P.products (after P S w) c i
     unfolding backlog_before run_tables
-    backlog-before zero c i k l = sym (opening_backlog P R c i k l)
-    backlog-before (suc w) c i k l = refl
+    backlog_before_lem zero c i k l = sym (opening_backlog P R c i k l)
+    backlog_before_lem (suc w) c i k l = refl
 
-    pub inventory-before : (w i : ℕ) → i < P.products → inventory_before P (run_tables P S) w i ≡ inventory_of (after P S w) i
+    pub inventory_before_lem : (w i : ℕ) → i < P.products → inventory_before P (run_tables P S) w i ≡ inventory_of (after P S w) i
     unfolding inventory_before run_tables
-    inventory-before zero i l = sym (opening_inventory P R i l)
-    inventory-before (suc w) i l = refl
+    inventory_before_lem zero i l = sym (opening_inventory P R i l)
+    inventory_before_lem (suc w) i l = refl
 
     -- when the week's slots have run
-    pub ran-backlog : (w c i : ℕ) → backlog_of P.products (ran w) c i ≡ backlog_of P.products (after P S w) c i
+    pub ran_backlog : (w c i : ℕ) → backlog_of P.products (ran w) c i ≡ backlog_of P.products (after P S w) c i
     unfolding ran_week week_begin with_line with_week backlog_of
-    ran-backlog w c i = ap (λ (l : List ℕ). get_or l (c * P.products + i) 0) (slots_backlog P.line (S.line.week w) (week_begin (after P S w)))
+    ran_backlog w c i = ap (λ (l : List ℕ). get_or l (c * P.products + i) 0) (slots_backlog P.line (S.line.week w) (week_begin (after P S w)))
 
-    pub ran-inventory : (w : ℕ) → WeekFormed P.products (S.line.week w) → (i : ℕ)
+    pub ran_inventory : (w : ℕ) → WeekFormed P.products (S.line.week w) → (i : ℕ)
         → inventory_of (ran w) i ≡ inventory_of (after P S w) i + P.line.rate i * minutes_of (S.line.week w) i
     unfolding ran_week week_begin with_line with_week inventory_of
-    ran-inventory w f i =
+    ran_inventory w f i =
         slots_inventory P R (S.line.week w) (week_begin (after P S w)) (begin_lengths (after_lengths w))
         (order_below P.products (S.line.week w) f) i
 
     -- after it
-    pub after-backlog : (w c i : ℕ) → c < P.customers → i < P.products
+    pub after_backlog : (w c i : ℕ) → c < P.customers → i < P.products
         → backlog_of P.products (after P S (suc w)) c i ≡ backlog_of P.products (after P S w) c i + P.demand c i w - S.sales c i w
-    after-backlog w c i k l = rw (week-backlog P R (week_input P S w) (ran w) (ran_lengths w) c i k l, ran-backlog w c i)
+    after_backlog w c i k l = rw (week_backlog P R (week_input P S w) (ran w) (ran_lengths w) c i k l, ran_backlog w c i)
 
-    pub after-inventory : (w : ℕ) → WeekFormed P.products (S.line.week w) → (i : ℕ) → i < P.products
+    pub after_inventory : (w : ℕ) → WeekFormed P.products (S.line.week w) → (i : ℕ) → i < P.products
         → inventory_of (after P S (suc w)) i
         ≡ inventory_of (after P S w) i + P.line.rate i * minutes_of (S.line.week w) i - sum_below P.customers (λ c. S.sales c i w)
-    after-inventory w f i l = rw (week-inventory P R (week_input P S w) (ran w) (ran_lengths w) i l, ran-inventory w f i)
+    after_inventory w f i l = rw (week_inventory P R (week_input P S w) (ran w) (ran_lengths w) i l, ran_inventory w f i)

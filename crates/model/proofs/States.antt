@@ -89,32 +89,32 @@ module _ (P : Plant) (R : PlantRanges P) where
   begin_ran s i l = ne_eqb (digit i 0) 1 (λ e. absurd (omega (arith, digit_zero i, e)))
 
   module _ (x : Slot) (s : State) (h : Lengths s) (l : x.product < P.products) where
-    pub slot-inventory : (i : ℕ) → inventory_of (slot_done P.line x s) i ≡ inventory_of s i + is x.product i * (P.line.rate x.product * x.minutes)
+    pub slot_inventory : (i : ℕ) → inventory_of (slot_done P.line x s) i ≡ inventory_of s i + is x.product i * (P.line.rate x.product * x.minutes)
     unfolding slot_done inventory_of with_inventory with_line with_week with_profit with_mounted
-    slot-inventory i = elim (ℕ_discrete x.product i) [
+    slot_inventory i = elim (ℕ_discrete x.product i) [
       | yes e ↦ rw (is_same x.product i e, ← e)
           (get_or-set_same s.inventory x.product _ 0 (omega (arith, h.inventory, R.products_most)) ∙ omega arith)
       | no d ↦ rw (is_other x.product i d)
           (get_or-set_other s.inventory x.product i _ 0 (λ e. d (omega arith)) ∙ omega arith)
     ]
 
-    pub slot-ran : has_run s x.product ≡ false → (i : ℕ) → mark (has_run (slot_done P.line x s) i) ≡ mark (has_run s i) + is x.product i
+    pub slot_ran : has_run s x.product ≡ false → (i : ℕ) → mark (has_run (slot_done P.line x s) i) ≡ mark (has_run s i) + is x.product i
     unfolding slot_done has_run with_inventory with_line with_week with_profit with_mounted
-    slot-ran fresh i =
+    slot_ran fresh i =
         mark_digit i (s.line.ran + 2 ^ x.product)
         ∙ (digit_set x.product i s.line.ran (digit_unset s.line.ran x.product fresh)
         ∙ ap (λ (n : ℕ). n + is x.product i) (sym (mark_digit i s.line.ran)))
 
   module _ (v : WeekInput) (s : State) (h : Lengths s) where
-    pub week-inventory : (i : ℕ) → i < P.products → inventory_of (week_done P v s) i ≡ inventory_of s i - sold_of P v i
+    pub week_inventory : (i : ℕ) → i < P.products → inventory_of (week_done P v s) i ≡ inventory_of s i - sold_of P v i
     unfolding week_done booked backlog_after inventory_after with_inventory with_backlog with_profit inventory_of
-    week-inventory i l =
+    week_inventory i l =
         row_first P.products (λ i stock. stock - sold_of P v i) s.inventory (omega (arith, h.inventory, R.products_most)) i l
 
-    pub week-backlog : (c i : ℕ) → c < P.customers → i < P.products
+    pub week_backlog : (c i : ℕ) → c < P.customers → i < P.products
         → backlog_of P.products (week_done P v s) c i ≡ backlog_of P.products s c i + v.demand c i - v.sales c i
     unfolding week_done booked backlog_after inventory_after with_inventory with_backlog with_profit backlog_of
-    week-backlog c i k l =
+    week_backlog c i k l =
         rows_at P.customers P.products (λ c i owed. owed + v.demand c i - v.sales c i) s.backlog (omega (arith, h.backlog, table_fits)) c i k l
 
 -- the profit, by the cells after the week

@@ -25,7 +25,7 @@ use Rattle.machine.specs.Run.{run_slots, run_week, run_weeks, run, slots_done, r
 use Rattle.machine.proofs.Steps.{met_none, SlotContinues, slot_continues, slot_continued, tries, week_continues, week_continued, storage_at_lem}
 use Rattle.machine.proofs.Runs.{continued_step, then_continued}
 use Rattle.model.specs.RunTables.{minutes_of}
-use Rattle.model.proofs.States.{Lengths, mark, begin_lengths, slot_lengths_lem, slot-ran, slot_clock, begin_clock, kept_inventory}
+use Rattle.model.proofs.States.{Lengths, mark, begin_lengths, slot_lengths_lem, slot_ran, slot_clock, begin_clock, kept_inventory}
 use Rattle.mathematics.proofs.Tables.{all_grid, grid_all}
 use Rattle.model.proofs.Changeovers.{no_minutes}
 use Rattle.model.proofs.RunStates.{slots_clock, ran, after_lengths}
@@ -60,7 +60,7 @@ module _ (P : Plant) (R : PlantRanges P) where
       let d = slots_continued xs (slot_done P.line x s) r (slot_lengths_lem P.line x h) (λ u l. k (suc u) (omega arith))
       (omega (arith, c.early, slot_clock P.line x s)) (ap (run_slots P P.line xs) (sym b.0) ∙ a.1) in (
         record {
-          once = λ i l. omega (arith, d.0.once i l, slot-ran P R x s h (k 0 (omega arith)) c.fresh i);
+          once = λ i l. omega (arith, d.0.once i l, slot_ran P R x s h (k 0 (omega arith)) c.fresh i);
           long = λ i l. elim (ℕ_discrete x.product i) [
             | yes q ↦ rw (is_same x.product i q) (omega (arith, c.long, d.0.long i l))
             | no q ↦ rw (is_other x.product i q) (omega (arith, d.0.long i l))
@@ -89,7 +89,7 @@ module _ (P : Plant) (R : PlantRanges P) where
       } in
       then_continue (slot_step P P.line x s) (run_slots P P.line xs) done (slots_done P.line xs done) (slot_continues P P.line x s goes)
       (slots_continue xs done (slot_lengths_lem P.line x h) (λ u v. k (suc u) (omega arith)) (record {
-        once = λ i j. omega (arith, c.once i j, slot-ran P R x s h l fresh i);
+        once = λ i j. omega (arith, c.once i j, slot_ran P R x s h l fresh i);
         long = λ i j. elim (ℕ_discrete p i) [
           | yes q ↦ (let z : assigned_in (order_of_slots xs) i ≡ 0 = sym (ap (assigned_in (order_of_slots xs)) q) ∙ none in rw z (omega arith))
           | no q ↦ (let z = is_other p i q in omega (arith, rw z at (c.long i j)))
@@ -154,9 +154,9 @@ module _ (P : Plant) (R : PlantRanges P) (S : Slots) where
     abbrev v : WeekInput
     v = week_input P S w
 
-    run-week-continued : (s : State) → run_week P v (after P S w) ≡ continues s → WeekContinues P S w × (after P S (suc w) ≡ s)
+    run_week_continued : (s : State) → run_week P v (after P S w) ≡ continues s → WeekContinues P S w × (after P S (suc w) ≡ s)
     unfolding run_week ran_week
-    run-week-continued s e =
+    run_week_continued s e =
         let r = run_slots P P.line xs begun in
         let a = then_continued r (week_end P v) s e in
         let b = slots_continued P R xs begun r.state (begin_lengths (after_lengths P S w)) (order_below P.products xs f)
@@ -164,9 +164,9 @@ module _ (P : Plant) (R : PlantRanges P) (S : Slots) where
         let c = end_continued P v (ran P S w) s (ap (week_end P v) b.1 ∙ a.1) in
         (record { slots = b.0; ends = c.0 }, c.1)
 
-    run-week-continues : WeekContinues P S w → run_week P v (after P S w) ≡ continues (after P S (suc w))
+    run_week_continues : WeekContinues P S w → run_week P v (after P S w) ≡ continues (after P S (suc w))
     unfolding run_week ran_week
-    run-week-continues h =
+    run_week_continues h =
         then_continue (run_slots P P.line xs begun) (week_end P v) (ran P S w) (after P S (suc w))
         (slots_continue P R xs begun (begin_lengths (after_lengths P S w)) (order_below P.products xs f) h.slots)
         (end_continues P v (ran P S w) h.ends)
@@ -186,7 +186,7 @@ module _ (P : Plant) (R : PlantRanges P) (S : Slots) where
   weeks_continued (suc left) w s f e =
       let r = run_week P (week_input P S w) (after P S w) in
       let a = then_continued r (run_weeks P (week_input P S) left (w + 1)) s e in
-      let b = run-week-continued w (f w (omega arith) (omega arith)) r.state (continued_step r a.0) in
+      let b = run_week_continued w (f w (omega arith) (omega arith)) r.state (continued_step r a.0) in
       let c = weeks_continued left (suc w) s (λ u k l. f u (omega arith) (omega arith))
       (rw (← add-one w) (ap (run_weeks P (week_input P S) left (w + 1)) b.1 ∙ a.1)) in
       let n : w + suc left ≡ suc w + left = omega arith in (
@@ -200,21 +200,21 @@ module _ (P : Plant) (R : PlantRanges P) (S : Slots) where
   weeks_continue (suc left) w f h =
       let n : suc w + left ≡ w + suc left = omega arith in
       then_continue (run_week P (week_input P S w) (after P S w)) (run_weeks P (week_input P S) left (w + 1)) (after P S (suc w)) (after P S (w + suc left))
-      (run-week-continues w (f w (omega arith) (omega arith)) (h w (omega arith) (omega arith)))
+      (run_week_continues w (f w (omega arith) (omega arith)) (h w (omega arith) (omega arith)))
       (ap (λ (u : ℕ). run_weeks P (week_input P S) left u (after P S (suc w))) (add-one w)
       ∙ (weeks_continue left (suc w) (λ u k l. f u (omega arith) (omega arith)) (λ u k l. h u (omega arith) (omega arith))
       ∙ ap (λ (u : ℕ). continues (after P S u)) n))
 
   -- ---- the run
   module _ (f : (w : ℕ) → w < P.weeks → formed w) where
-    pub run-continued : (s : State) → run P S ≡ continues s → ((w : ℕ) → w < P.weeks → WeekContinues P S w) × (after P S P.weeks ≡ s)
+    pub run_continued : (s : State) → run P S ≡ continues s → ((w : ℕ) → w < P.weeks → WeekContinues P S w) × (after P S P.weeks ≡ s)
     unfolding run
-    run-continued s e =
+    run_continued s e =
         let r = weeks_continued P.weeks 0 s (λ u k l. f u (omega arith)) e in
         (λ u l. r.0 u (omega arith) (omega arith), sym (ap (after P S) (zero-add P.weeks)) ∙ r.1)
 
-    pub run-continues : ((w : ℕ) → w < P.weeks → WeekContinues P S w) → run P S ≡ continues (after P S P.weeks)
+    pub run_continues : ((w : ℕ) → w < P.weeks → WeekContinues P S w) → run P S ≡ continues (after P S P.weeks)
     unfolding run
-    run-continues h =
+    run_continues h =
         weeks_continue P.weeks 0 (λ u k l. f u (omega arith)) (λ u k l. h u (omega arith))
         ∙ ap (λ (u : ℕ). continues (after P S u)) (zero-add P.weeks)

@@ -31,24 +31,24 @@ use Rattle.model.specs.Model.{Binary, AmountModel}
 use Rattle.model.specs.Match.{Gives, slots_shown}
 use Rattle.model.proofs.Grids.{grid_most}
 use Rattle.model.proofs.Changeovers.{total_minutes}
-use Rattle.model.proofs.RuleFacts.{RulesHold, rules-times, amounts-of, profit_of_lem}
+use Rattle.model.proofs.RuleFacts.{RulesHold, rules_times, amounts_of, profit_of_lem}
 use Rattle.model.proofs.RunRules.{clock}
-use Rattle.model.proofs.PlanRuns.{plan-facts}
+use Rattle.model.proofs.PlanRuns.{plan_facts}
 use Rattle.model.proofs.GivenPlans.{continued, given_rules, given_binary}
 use Rattle.model.proofs.Agreement.{passing_runs}
 
 -- ---- a plan that meets the rules
 module _ (P : Plant) (R : PlantRanges P) (x : Plan) (b : Binary P x) (r : RulesHold P x) where
   amounts : (w : ℕ) → w < P.weeks → AmountModel P x w
-  amounts = amounts-of P x r
+  amounts = amounts_of P x r
 
   minutes_most : (w i : ℕ) → w < P.weeks → i < P.products → x.line.minutes w i ≤ most_week_minutes
-  minutes_most w i l k = omega (arith, (rules-times P x r w l).longest_run i k, mul-le-mul R.week_most (b.assigned w i l k))
+  minutes_most w i l k = omega (arith, (rules_times P x r w l).longest_run i k, mul-le-mul R.week_most (b.assigned w i l k))
 
   position_most : (w i : ℕ) → w < P.weeks → i < P.products → x.line.position w i ≤ 16
   unfolding week_of
   position_most w i l k =
-      omega (arith, (plan-facts P x b r w l).high i k, sum_few 1 (x.line.assigned w) R.products_most (λ j m. b.assigned w j l m))
+      omega (arith, (plan_facts P x b r w l).high i k, sum_few 1 (x.line.assigned w) R.products_most (λ j m. b.assigned w j l m))
 
   inventory_most : (w i : ℕ) → w < P.weeks → i < P.products → x.inventory w i ≤ most_storage
   inventory_most w i l k = omega (arith, (amounts w l).storage_most i k, R.storage_most i k)

@@ -48,7 +48,7 @@ module _ (f : Shape) (x : Plan) (small : Small f) where
 
   body : (place : ℕ) → place < 12 → part F (offset F place) (extent F place) ≡ get_or (plan_bodies f x) place []
   unfolding plan_file plan_bodies
-  body place l = written.file-body 2 21 (plan_bodies f x) (omega arith) listed place l
+  body place l = written.file_body 2 21 (plan_bodies f x) (omega arith) listed place l
 
   -- a table is read back from the section in its place
   by_week : (place : ℕ) → place < 12 → (k : ℕ) (a : ℕ → ℕ → ℕ) {bound : ℕ} → bound ≤ 256 ^ k
@@ -70,9 +70,9 @@ module _ (f : Shape) (x : Plan) (small : Small f) where
         ap signed_of (section_at 8 F 11 1 (λ j. unsigned_of x.profit) (size 11 (omega arith)) (body 11 (omega arith)) 0 (omega arith)
         (unsigned_below x.profit h.profit)) ∙ signed_unsigned x.profit h.profit
 
-    pub file-plan : SamePlan f (plan_of f F) x
+    pub file_plan : SamePlan f (plan_of f F) x
     unfolding plan_of line_plan_of plan_bodies
-    file-plan =
+    file_plan =
         let l = h.line in
         let squares = sym (table_rows 1 f.weeks f.products f.products) in
         record {
@@ -93,35 +93,35 @@ module _ (f : Shape) (x : Plan) (small : Small f) where
         }
 
     -- row 14
-    bits-by-week : (place : ℕ) {a : ℕ → ℕ → ℕ} → Same2 f.weeks f.products (λ w i. cell 1 F place (w * f.products + i)) a
+    bits_by_week : (place : ℕ) {a : ℕ → ℕ → ℕ} → Same2 f.weeks f.products (λ w i. cell 1 F place (w * f.products + i)) a
         → Below2 f.weeks f.products 2 a → in_range 1 F place 0 (f.weeks * f.products) 0 1 ≡ true
-    bits-by-week place e b =
+    bits_by_week place e b =
         bits_range F place _ (flat_each (λ j. cell 1 F place j < 2) f.weeks f.products (λ w i p q. rw (e w i p q) (b w i p q)))
 
-    bits-by-pair : (place : ℕ) {a : ℕ → ℕ → ℕ → ℕ}
+    bits_by_pair : (place : ℕ) {a : ℕ → ℕ → ℕ → ℕ}
         → Same3 f.weeks f.products f.products (λ w i j. cell 1 F place ((w * f.products + i) * f.products + j)) a
         → Below3 f.weeks f.products f.products 2 a → in_range 1 F place 0 (f.weeks * f.products * f.products) 0 1 ≡ true
-    bits-by-pair place e b =
+    bits_by_pair place e b =
         bits_range F place _
         (flat_each3 (λ j. cell 1 F place j < 2) f.weeks f.products f.products (λ w i j p q r. rw (e w i j p q r) (b w i j p q r)))
 
     row14 : binary F f ≡ true
     unfolding plan_of line_plan_of
     row14 =
-        let e = file-plan.line in
+        let e = file_plan.line in
         let b = h.line in
         facts_binary F f (record {
-          assigned = bits-by-week 0 e.assigned b.assigned;
-          first = bits-by-week 1 e.first b.first;
-          last = bits-by-week 2 e.last b.last;
-          changeover = bits-by-pair 3 e.changeover b.changeover;
-          week_changeover = bits-by-pair 4 e.week_changeover b.week_changeover;
+          assigned = bits_by_week 0 e.assigned b.assigned;
+          first = bits_by_week 1 e.first b.first;
+          last = bits_by_week 2 e.last b.last;
+          changeover = bits_by_pair 3 e.changeover b.changeover;
+          week_changeover = bits_by_pair 4 e.week_changeover b.week_changeover;
         })
 
     pub file_good : plan_form f F ≡ Good f
     unfolding plan_form plan_file plan_bodies
     file_good =
         let bodies = plan_bodies f x in
-        let lies : placed F 12 ≡ true = written.file-placed 2 21 bodies (omega arith) listed in
-        let lens : sized F (plan_lengths f) ≡ true = rw (bodies_lengths f x) at (written.file-sized 2 21 bodies (omega arith) listed) in
-        rw (written.file-headed 2 21 bodies (omega arith) listed, lies, lens, row14)
+        let lies : placed F 12 ≡ true = written.file_placed 2 21 bodies (omega arith) listed in
+        let lens : sized F (plan_lengths f) ≡ true = rw (bodies_lengths f x) at (written.file_sized 2 21 bodies (omega arith) listed) in
+        rw (written.file_headed 2 21 bodies (omega arith) listed, lies, lens, row14)

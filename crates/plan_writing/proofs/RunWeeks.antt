@@ -21,9 +21,9 @@ use Rattle.machine.specs.Run.{opening, run, after}
 use Rattle.costs.specs.Mounted.{mounted_below}
 use Rattle.model.specs.RunTables.{minutes_of, mounted_at, run_tables}
 use Rattle.model.proofs.States.{opening_inventory, opening_backlog}
-use Rattle.model.proofs.RunStates.{mounted_below_lem, ran-backlog, ran-inventory, after-backlog, after-inventory}
-use Rattle.model.proofs.RunRules.{run-order}
-use Rattle.model.proofs.Stops.{WeekContinues, run-continued}
+use Rattle.model.proofs.RunStates.{mounted_below_lem, ran_backlog, ran_inventory, after_backlog, after_inventory}
+use Rattle.model.proofs.RunRules.{run_order}
+use Rattle.model.proofs.Stops.{WeekContinues, run_continued}
 use Rattle.plan_writing.specs.Ran.{Ran, WeekRow}
 
 pub times_same : {a b x y : ℕ} → a ≡ b → x ≡ y → a * x ≡ b * y
@@ -55,7 +55,7 @@ module _ (f : Shape) (plant slots : List ℕ) (h : Ran f plant slots) where
   all_continue =
       let r = run P S in
       let e : r ≡ continues r.state = λ u. record { state = r.state; outcome = h.continued u } in
-      run-continued P ranges S formed r.state e
+      run_continued P ranges S formed r.state e
 
   week_continues : (w : ℕ) → w < f.weeks → WeekContinues P S w
   week_continues = all_continue.0
@@ -63,7 +63,7 @@ module _ (f : Shape) (plant slots : List ℕ) (h : Ran f plant slots) where
   -- no week has a product twice
   pub week_row : (row : SlotRow) → RowOf f slots row → row.week < f.weeks → WeekRow f slots row
   week_row row r l =
-      record { row_of = r; week = l; once = run-order P ranges S row.week (formed row.week l) (week_continues row.week l) }
+      record { row_of = r; week = l; once = run_order P ranges S row.week (formed row.week l) (week_continues row.week l) }
 
   -- what is mounted is one of the products
   pub mounted_known_lem : (w : ℕ) → w ≤ f.weeks → mounted_below f.products (mounted_at P S w)
@@ -78,33 +78,33 @@ module _ (f : Shape) (plant slots : List ℕ) (h : Ran f plant slots) where
     pub inventory_first : P.opening_inventory i ≡ inventory_of (after P S 0) i
     inventory_first = sym (opening_inventory P ranges i k)
 
-    pub inventory-next : (w : ℕ) → w < f.weeks
+    pub inventory_next : (w : ℕ) → w < f.weeks
         → inventory_of (after P S w) i + P.line.rate i * minutes_of (S.line.week w) i - sum_below f.customers (λ c. S.sales c i w)
         ≡ inventory_of (after P S (w + 1)) i
-    inventory-next w l =
+    inventory_next w l =
         let n : suc w ≡ w + 1 = omega arith in
-        sym (after-inventory P S ranges w (formed w l) i k) ∙ ap (λ (v : ℕ). inventory_of (after P S v) i) n
+        sym (after_inventory P S ranges w (formed w l) i k) ∙ ap (λ (v : ℕ). inventory_of (after P S v) i) n
 
     -- no stop 39, no stop 40
-    pub inventory-covers : (w : ℕ) → w < f.weeks
+    pub inventory_covers : (w : ℕ) → w < f.weeks
         → sum_below f.customers (λ c. S.sales c i w) ≤ inventory_of (after P S w) i + P.line.rate i * minutes_of (S.line.week w) i
-    inventory-covers w l =
-        omega (arith, (week_continues w l).ends.stocked i k, ran-inventory P S ranges w (formed w l) i)
+    inventory_covers w l =
+        omega (arith, (week_continues w l).ends.stocked i k, ran_inventory P S ranges w (formed w l) i)
 
-    pub inventory-limit : (w : ℕ) → w < f.weeks → inventory_of (after P S w) i ≤ most_storage
-    inventory-limit zero l = omega (arith, inventory_first, ranges.opening_inventory_most i k)
-    inventory-limit (suc w) l = omega (arith, (week_continues w (omega arith)).ends.most i k, ranges.storage_most i k)
+    pub inventory_limit : (w : ℕ) → w < f.weeks → inventory_of (after P S w) i ≤ most_storage
+    inventory_limit zero l = omega (arith, inventory_first, ranges.opening_inventory_most i k)
+    inventory_limit (suc w) l = omega (arith, (week_continues w (omega arith)).ends.most i k, ranges.storage_most i k)
 
     module _ (c : ℕ) (d : c < f.customers) where
-      pub backlog-first : P.opening_backlog c i ≡ backlog_of f.products (after P S 0) c i
-      backlog-first = sym (opening_backlog P ranges c i d k)
+      pub backlog_first : P.opening_backlog c i ≡ backlog_of f.products (after P S 0) c i
+      backlog_first = sym (opening_backlog P ranges c i d k)
 
-      pub backlog-next : (w : ℕ) → w < f.weeks
+      pub backlog_next : (w : ℕ) → w < f.weeks
           → backlog_of f.products (after P S w) c i + P.demand c i w - S.sales c i w ≡ backlog_of f.products (after P S (w + 1)) c i
-      backlog-next w l =
+      backlog_next w l =
           let n : suc w ≡ w + 1 = omega arith in
-          sym (after-backlog P S ranges w c i d k) ∙ ap (λ (v : ℕ). backlog_of f.products (after P S v) c i) n
+          sym (after_backlog P S ranges w c i d k) ∙ ap (λ (v : ℕ). backlog_of f.products (after P S v) c i) n
 
       -- no stop 38
-      pub backlog-covers : (w : ℕ) → w < f.weeks → S.sales c i w ≤ backlog_of f.products (after P S w) c i + P.demand c i w
-      backlog-covers w l = omega (arith, (week_continues w l).ends.due c i d k, ran-backlog P S ranges w c i)
+      pub backlog_covers : (w : ℕ) → w < f.weeks → S.sales c i w ≤ backlog_of f.products (after P S w) c i + P.demand c i w
+      backlog_covers w l = omega (arith, (week_continues w l).ends.due c i d k, ran_backlog P S ranges w c i)

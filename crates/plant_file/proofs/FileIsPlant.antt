@@ -108,7 +108,7 @@ module _ (p : Plant) (R : PlantRanges p) where
   body : (place : ℕ) → place < (plant_kind p.kind).sections → part F (offset F place) (extent F place) ≡ get_or (plant_bodies p) place []
   unfolding plant_file
   body place l =
-      written.file-body (plant_kind p.kind).number 1 (plant_bodies p) (kind_number p.kind) listed place (omega (arith, bodies_count p))
+      written.file_body (plant_kind p.kind).number 1 (plant_bodies p) (kind_number p.kind) listed place (omega (arith, bodies_count p))
 
   -- sections 1 to 11 are in every kind
   listed_first : (place : ℕ) → place < 11 → place < (plant_kind p.kind).sections
@@ -133,7 +133,7 @@ module _ (p : Plant) (R : PlantRanges p) where
   unfolding plant_bodies has_mounted
   last_at j l h =
       let a : ℕ → ℕ = λ j. cond (eqb j 0) p.line.mounted p.line.shut_before in
-      let most : a j < 256 = cond_below (eqb j 0) (mounted-byte R.line.mounted_known_lem) (omega (arith, R.line.shut_before_most)) in
+      let most : a j < 256 = cond_below (eqb j 0) (mounted_byte R.line.mounted_known_lem) (omega (arith, R.line.shut_before_most)) in
       let there : 11 < (plant_kind p.kind).sections = omega (arith, eqb-true (plant_kind p.kind).sections 12 h) in
       sym (section_at 1 F 11 2 a (size 11 there ∙ rw h refl) (body 11 there ∙ rw h refl) j l most)
     where
@@ -141,9 +141,9 @@ module _ (p : Plant) (R : PlantRanges p) where
       cond_below true x y = x
       cond_below false x y = y
 
-      mounted-byte : (p.line.mounted < p.products) ⊎ (p.line.mounted ≡ nothing_mounted) → p.line.mounted < 256
-      mounted-byte (inl h) = omega (arith, R.products_most)
-      mounted-byte (inr h) = omega arith
+      mounted_byte : (p.line.mounted < p.products) ⊎ (p.line.mounted ≡ nothing_mounted) → p.line.mounted < 256
+      mounted_byte (inl h) = omega (arith, R.products_most)
+      mounted_byte (inr h) = omega arith
 
   mounted_back : p.line.mounted ≡ mounted_in f F
   unfolding mounted_in
@@ -291,8 +291,8 @@ module _ (p : Plant) (R : PlantRanges p) where
       let k = plant_kind p.kind in
       let bodies = plant_bodies p in
       let small-kind = kind_number p.kind in
-      let heads = rw (bodies_count p) at (written.file-headed k.number 1 bodies small-kind listed) in
-      let lies = rw (bodies_count p) at (written.file-placed k.number 1 bodies small-kind listed) in
-      let lens = rw (bodies_lengths p) at (written.file-sized k.number 1 bodies small-kind listed) in
+      let heads = rw (bodies_count p) at (written.file_headed k.number 1 bodies small-kind listed) in
+      let lies = rw (bodies_count p) at (written.file_placed k.number 1 bodies small-kind listed) in
+      let lens = rw (bodies_lengths p) at (written.file_sized k.number 1 bodies small-kind listed) in
       let three : eqb (extent F 0) 3 ≡ true = eq-eqb _ _ (size 0 (listed_first 0 (omega arith))) in
       plant_accepted F (rw first_byte heads) (rw first_byte (both_and _ _ lies three)) (rw shape_is lens) (rw shape_is file_ranges) ∙ ap Good shape_is

@@ -78,11 +78,11 @@ module _ (P : Plant) (x : Plan) where
     unfolding left trials
     turn = next P.weeks (trials P x) (profit_tried P x) refl i l (get_or order i 0) refl
 
-    pub left-broken : all_below P.weeks (keeps_of (get_or order i 0) (trials P x)) ≡ false → left i P x ≡ Broken (get_or order i 0)
-    left-broken h = turn ∙ rw h
+    pub left_broken : all_below P.weeks (keeps_of (get_or order i 0) (trials P x)) ≡ false → left i P x ≡ Broken (get_or order i 0)
+    left_broken h = turn ∙ rw h
 
-    pub left-next : all_below P.weeks (keeps_of (get_or order i 0) (trials P x)) ≡ true → left i P x ≡ left (suc i) P x
-    left-next h = turn ∙ rw h
+    pub left_next : all_below P.weeks (keeps_of (get_or order i 0) (trials P x)) ≡ true → left i P x ≡ left (suc i) P x
+    left_next h = turn ∙ rw h
 
   pub profit_broken : (i : ℕ) → i ≡ 10 → rule41 P x ≡ false → left i P x ≡ Broken 41
   unfolding left tried trials profit_tried

@@ -73,11 +73,11 @@ module _ (f : Shape) (x : Slots) where
 
   module _ (small : (f.products < 256) × (f.customers < 256) × (f.weeks < 256)) (h : SlotsFit f x) where
     -- a week's count is a byte
-    count-byte : (w : ℕ) → w < f.weeks → count w ≤ 255
-    count-byte w l = omega (arith, (h.formed w l).few, small.0)
+    count_byte : (w : ℕ) → w < f.weeks → count w ≤ 255
+    count_byte w l = omega (arith, (h.formed w l).few, small.0)
 
     few : total ≤ 65025
-    few = omega (arith, sum_mono f.weeks count (λ w. 255) count-byte, sum_const f.weeks 255, small.2)
+    few = omega (arith, sum_mono f.weeks count (λ w. 255) count_byte, sum_const f.weeks 255, small.2)
 
     listable : Listable 41 (map length (slot_bodies f x))
     listable =
@@ -90,62 +90,62 @@ module _ (f : Shape) (x : Slots) where
 
     body : (i : ℕ) → i < 3 → part F (offset F i) (extent F i) ≡ get_or (slot_bodies f x) i []
     unfolding slot_file slot_bodies
-    body i l = laid.file-body 3 41 (slot_bodies f x) (omega arith) listable i l
+    body i l = laid.file_body 3 41 (slot_bodies f x) (omega arith) listable i l
 
     -- ---- sections 41 and 42
     count_at : (w : ℕ) → w < f.weeks → slot_count F w ≡ count w
     unfolding slot_count slot_bodies
     count_at w l =
         section_at 1 F 0 f.weeks count (extents 0 (omega arith) ∙ sym (one_row 1 f.weeks)) (body 0 (omega arith)) w l
-        (omega (arith, count-byte w l))
+        (omega (arith, count_byte w l))
 
     before_at : (w : ℕ) → w ≤ f.weeks → slots_before F w ≡ sum_below w count
     unfolding slots_before
     before_at w l = sum_ext w (slot_count F) count (λ i m. count_at i (omega arith))
 
     -- the bytes of week w, and of its slot k
-    week-part : (w : ℕ) → w < f.weeks → part F (offset F 1 + 3 * sum_below w count) (count w * 3) ≡ slot_bytes (x.line.week w)
+    week_part : (w : ℕ) → w < f.weeks → part F (offset F 1 + 3 * sum_below w count) (count w * 3) ≡ slot_bytes (x.line.week w)
     unfolding slot_bodies
-    week-part w l =
+    week_part w l =
         let there = join_at f.weeks (λ i. slot_bytes (x.line.week i)) F (offset F 1) (extent F 1)
         (slots_length f.weeks ∙ (one_row 3 total ∙ sym (extents 1 (omega arith)))) (body 1 (omega arith)) w l in
         rw (slots_length w, bytes_length (x.line.week w)) at there
 
-    slot-part : (w k : ℕ) → w < f.weeks → k < count w
+    slot_part : (w k : ℕ) → w < f.weeks → k < count w
         → part F (offset F 1 + 3 * (sum_below w count + k)) 3 ≡ bytes_of (get_or (x.line.week w) k no_slot)
-    slot-part w k l m =
+    slot_part w k l m =
         let at = offset F 1 + 3 * sum_below w count in
         let threes : (n : ℕ) → sum_below n (λ i. 3) ≡ n * 3 = λ n. sum_const n 3 in
         let there = join_at (count w) (λ i. bytes_of (get_or (x.line.week w) i no_slot)) F at (count w * 3) (threes (count w))
-        (week-part w l ∙ slot_join (x.line.week w)) k m in
+        (week_part w l ∙ slot_join (x.line.week w)) k m in
         let e : at + sum_below k (λ i. 3) ≡ offset F 1 + 3 * (sum_below w count + k) = omega (arith, threes k) in
         rw e at there
 
-    slot-at : (w k : ℕ) → w < f.weeks → k < count w → slot_at F (slots_before F w + k) ≡ get_or (x.line.week w) k no_slot
-    slot-at w k l m =
+    slot_at_lem : (w k : ℕ) → w < f.weeks → k < count w → slot_at F (slots_before F w + k) ≡ get_or (x.line.week w) k no_slot
+    slot_at_lem w k l m =
         rw (before_at w (omega arith))
-        (slot_read F (sum_below w count + k) (get_or (x.line.week w) k no_slot) (slot-part w k l m) (omega (arith, (h.formed w l).product k m, small.0))
+        (slot_read F (sum_below w count + k) (get_or (x.line.week w) k no_slot) (slot_part w k l m) (omega (arith, (h.formed w l).product k m, small.0))
         (h.minutes w k l m))
 
-    week-at : (w : ℕ) → w < f.weeks → (slots_of f F).line.week w ≡ x.line.week w
-    week-at w l =
+    week_at : (w : ℕ) → w < f.weeks → (slots_of f F).line.week w ≡ x.line.week w
+    week_at w l =
         let n = count_at w l in
         ext_get_or no_slot _ (x.line.week w) (week_length f F w ∙ n)
-        (λ k m. let d : k < count w = omega (arith, week_length f F w) in week_slot f F w k no_slot (omega arith) ∙ slot-at w k l d)
+        (λ k m. let d : k < count w = omega (arith, week_length f F w) in week_slot f F w k no_slot (omega arith) ∙ slot_at_lem w k l d)
 
-    pub file-slots : SameSlots f (slots_of f F) x
+    pub file_slots : SameSlots f (slots_of f F) x
     unfolding slots_of slot_bodies
-    file-slots =
+    file_slots =
         record {
-          week = week-at;
+          week = week_at;
           sales = λ c i w p q r.
               cube_at 4 F 2 f.customers f.products f.weeks x.sales (extents 2 (omega arith)) (body 2 (omega arith))
               c i w p q r (h.sales c i w p q r);
         }
 
     -- ---- rows 21 to 24
-    in-range : slots_in_range F f ≡ true
-    in-range = formed_range f F (λ w l. rw (week-at w l) (h.formed w l))
+    in_range_lem : slots_in_range F f ≡ true
+    in_range_lem = formed_range f F (λ w l. rw (week_at w l) (h.formed w l))
 
     sizes : sized F (slot_lengths f (slots_before F f.weeks)) ≡ true
     sizes = rw (before_at f.weeks (omega arith)) (at_sized F (slot_lengths f total) (λ i l. extents i l))
@@ -153,9 +153,9 @@ module _ (f : Shape) (x : Slots) where
     pub file_good : slot_form f F ≡ Good f
     unfolding slot_form slot_file slot_bodies
     file_good =
-        let heads = laid.file-headed 3 41 (slot_bodies f x) (omega arith) listable in
-        let lies = laid.file-placed 3 41 (slot_bodies f x) (omega arith) listable in
-        rw (heads, lies, sizes, in-range)
+        let heads = laid.file_headed 3 41 (slot_bodies f x) (omega arith) listable in
+        let lies = laid.file_placed 3 41 (slot_bodies f x) (omega arith) listable in
+        rw (heads, lies, sizes, in_range_lem)
 
 -- the file is a list of bytes
 slots_bytes : (xs : List Slot) → Bytes (slot_bytes xs)

@@ -46,11 +46,11 @@ module _ {f : Shape} {s : List ℕ} {row : SlotRow} (h : RowOf f s row) (l : row
 
   module _ (k : ℕ) (m : k < row.count) where
     -- slot k is one of all, and lies within the file
-    pub row-slot-known : row.first + k < slots_before s f.weeks
-    row-slot-known = omega (arith, h.first, slot_below s f.weeks row.week k l (omega (arith, h.count l)))
+    pub row_slot_known : row.first + k < slots_before s f.weeks
+    row_slot_known = omega (arith, h.first, slot_below s f.weeks row.week k l (omega (arith, h.count l)))
 
-    pub row-slot-held : row.first + k ≤ length s
-    row-slot-held = omega (arith, slot_inside f s h.good (row.first + k) row-slot-known)
+    pub row_slot_held : row.first + k ≤ length s
+    row_slot_held = omega (arith, slot_inside f s h.good (row.first + k) row_slot_known)
 
-    pub row-slot-is : slot_at s (row.first + k) ≡ get_or ((slots_of f s).line.week row.week) k no_slot
-    row-slot-is = rw h.first (sym (week_slot f s row.week k no_slot (omega (arith, h.count l))))
+    pub row_slot_is : slot_at s (row.first + k) ≡ get_or ((slots_of f s).line.week row.week) k no_slot
+    row_slot_is = rw h.first (sym (week_slot f s row.week k no_slot (omega (arith, h.count l))))

@@ -14,7 +14,7 @@ use Rattle.mathematics.proofs.OrderTheorem.{order_length}
 use Rattle.numbers.specs.Number.{digits, encode, store}
 use Rattle.numbers.proofs.Number.{encode_ext}
 use Rattle.contents.specs.File.{start, contents_bytes}
-use Rattle.contents.proofs.FileStored.{first_bodies, all_stored, contents-first, stretch-stored}
+use Rattle.contents.proofs.FileStored.{first_bodies, all_stored, contents_first, stretch_stored}
 use Rattle.contents.proofs.FileWritten.{file_length as laid-length}
 use Rattle.sections.specs.Section.{cube}
 use Rattle.sections.specs.declared.Shape.{Shape}
@@ -102,16 +102,16 @@ module _ (f : Shape) (s : List ℕ) where
     listed : map length (slot_bodies f (shown_in f s)) ≡ slot_lengths f total
     listed = lengths ∙ ap (slot_lengths f) (sym t)
 
-    pub contents-stored : contents_bytes 3 41 (slot_lengths f total) ≡ first_of 0
-    contents-stored = contents-first 3 41 (slot_bodies f (shown_in f s)) (slot_lengths f total) listed
+    pub contents_stored : contents_bytes 3 41 (slot_lengths f total) ≡ first_of 0
+    contents_stored = contents_first 3 41 (slot_bodies f (shown_in f s)) (slot_lengths f total) listed
 
     -- body i, stored in the stretch that is lent from its start on
-    pub body-next : (i at : ℕ) (first out lent : List ℕ) → out ≡ store first 0 (first_of i) → at ≡ start (slot_lengths f total) i
+    pub body_next : (i at : ℕ) (first out lent : List ℕ) → out ≡ store first 0 (first_of i) → at ≡ start (slot_lengths f total) i
         → at ≤ length out → lent ≡ store (mid_of at (length out - at) out) 0 (body_of f s i)
         → put_mid at (length out - at) out lent ≡ store first 0 (first_of (i + 1))
-    body-next i at first out lent o a l e =
+    body_next i at first out lent o a l e =
         ap (put_mid at (length out - at) out) e
-        ∙ stretch-stored 3 41 (slot_bodies f (shown_in f s)) (slot_lengths f total) listed first out i at o a l
+        ∙ stretch_stored 3 41 (slot_bodies f (shown_in f s)) (slot_lengths f total) listed first out i at o a l
 
 -- where the bodies begin
 pub starts : (f : Shape) (total : ℕ)

@@ -14,7 +14,7 @@ use Rattle.machine.specs.Run.{run_week, run_weeks, run}
 use Rattle.machine.specs.Bounds.{Sane}
 use Rattle.machine.specs.Files.{Readable}
 use Rattle.machine.proofs.Runs.{continued_step, then_continued, weeks_end, weeks_next}
-use Rattle.machine.proofs.Sanity.{opening_sane, week-kept}
+use Rattle.machine.proofs.Sanity.{opening_sane, week_kept}
 use Rattle.machine.proofs.run.Statement.{statement}
 use Rattle.machine.proofs.run.Tie as tie
 
@@ -58,7 +58,7 @@ loop-again c =
       λ goes.
           let q = continued_step r.result goes in
           let both = then_continued b.r (run_week P (week_input P S b.week)) r.result.state (sym r.ensures ∙ q) in
-          week-kept _ _ read.plant_good S fit read.week_known (b.invariant.1 both.0) r.result (q ∙ sym both.1) goes,
+          week_kept _ _ read.plant_good S fit read.week_known (b.invariant.1 both.0) r.result (q ∙ sym both.1) goes,
       rw r.ensures (weeks_next P (week_input P S) a.f.weeks b.week b.r read.week_known ∙ b.invariant.2),
     )
 

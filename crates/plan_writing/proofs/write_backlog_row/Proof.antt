@@ -14,7 +14,7 @@ use Rattle.slot_file.specs.Slots.{Slots, slots_of}
 use Rattle.machine.specs.State.{backlog_of}
 use Rattle.machine.specs.Run.{after}
 use Rattle.model.specs.RunTables.{run_tables}
-use Rattle.plan_writing.proofs.RunWeeks.{sides, backlog-first, backlog-next, backlog-covers}
+use Rattle.plan_writing.proofs.RunWeeks.{sides, backlog_first, backlog_next, backlog_covers}
 use Rattle.plan_writing.proofs.write_backlog_row.Statement.{statement}
 use Rattle.plan_writing.proofs.write_backlog_row.Tie as tie
 
@@ -52,13 +52,13 @@ module _ (s : tie.Start invariant-loop decreases-loop) where
   owed w = backlog_of s.args.f.products (after P S w) customer product
 
   first : P.opening_backlog customer product ≡ owed 0
-  first = backlog-first s.args.f s.args.plant.now s.args.slots.now s.pre.0 product product_known customer customer_known
+  first = backlog_first s.args.f s.args.plant.now s.args.slots.now s.pre.0 product product_known customer customer_known
 
   next : (w : ℕ) → w < s.args.f.weeks → owed w + P.demand customer product w - S.sales customer product w ≡ owed (w + 1)
-  next = backlog-next s.args.f s.args.plant.now s.args.slots.now s.pre.0 product product_known customer customer_known
+  next = backlog_next s.args.f s.args.plant.now s.args.slots.now s.pre.0 product product_known customer customer_known
 
   covers : (w : ℕ) → w < s.args.f.weeks → S.sales customer product w ≤ owed w + P.demand customer product w
-  covers = backlog-covers s.args.f s.args.plant.now s.args.slots.now s.pre.0 product product_known customer customer_known
+  covers = backlog_covers s.args.f s.args.plant.now s.args.slots.now s.pre.0 product product_known customer customer_known
 
   abbrev table : ℕ → ℕ
   table = (run_tables P S).backlog customer product

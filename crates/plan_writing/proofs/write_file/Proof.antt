@@ -8,7 +8,7 @@ use Prim.Native.Nat.{ℕ, ◌≤◌, ◌-◌, ◌+◌}
 use lib.ListN.{length, get_or}
 use Rattle.numbers.specs.Number.{store}
 use Rattle.contents.proofs.Entries.{start_zero, start_next, start_below}
-use Rattle.contents.proofs.FileStored.{first_bodies, contents-first, stretch-stored}
+use Rattle.contents.proofs.FileStored.{first_bodies, contents_first, stretch_stored}
 use Rattle.plant_file.specs.Plant.{plant_of}
 use Rattle.plan_file.specs.Form.{plan_lengths}
 use Rattle.plan_file.specs.File.{plan_bodies}
@@ -62,7 +62,7 @@ loop-again c =
       search rules,
       search rules,
       λ s e. ap (put_mid at (length out - at) out) c.before.before.write-body.ensures
-          ∙ stretch-stored 2 21 (plan_bodies a.f x) (plan_lengths a.f) (bodies_lengths a.f x) s out b.loop.place at (b.loop.invariant.2 s e)
+          ∙ stretch_stored 2 21 (plan_bodies a.f x) (plan_lengths a.f) (bodies_lengths a.f x) s out b.loop.place at (b.loop.invariant.2 s e)
           c.before.before.before.before.section-start.ensures.0
           (omega (arith, inside c.before.before.before.before)),
     )
@@ -76,7 +76,7 @@ returns c =
     let e : b.loop.place ≡ 12 = omega arith in
     b.loop.invariant.2 out
     (b.before.before.before.write-contents.ensures
-    ∙ ap (store out 0) (contents-first 2 21 (plan_bodies a.f x) (plan_lengths a.f) (bodies_lengths a.f x)))
+    ∙ ap (store out 0) (contents_first 2 21 (plan_bodies a.f x) (plan_lengths a.f) (bodies_lengths a.f x)))
     ∙ ap (store out 0) (ap (first_bodies 2 21 (plan_bodies a.f x)) e ∙ file_last a.f x)
 
 pub write-file-spec : {M : Type 1} → statement M

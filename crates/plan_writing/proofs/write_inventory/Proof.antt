@@ -22,7 +22,7 @@ use Rattle.machine.specs.Run.{after}
 use Rattle.model.specs.RunTables.{run_tables}
 use Rattle.plan_writing.specs.Ran.{WeekRow}
 use Rattle.plan_writing.specs.Bodies.{Shows, made_in, sold_in}
-use Rattle.plan_writing.proofs.RunWeeks.{few_products, week_row, inventory_first, inventory-next, inventory-covers, inventory-limit}
+use Rattle.plan_writing.proofs.RunWeeks.{few_products, week_row, inventory_first, inventory_next, inventory_covers, inventory_limit}
 use Rattle.plan_writing.proofs.write_inventory.Statement.{statement}
 use Rattle.plan_writing.proofs.write_inventory.Tie as tie
 
@@ -71,10 +71,10 @@ module _ (s : tie.Start invariant-loop decreases-loop) where
   module _ (w : ℕ) (l : w < s.args.f.weeks) (row made : List ℕ) (a : Shows N (held w) row)
       (b : Shows N (λ i. get_or row i 0 + made_in s.args.f plant slots w i) made) (i : ℕ) (k : i < N) where
     enough : sold_in s.args.f slots w i ≤ get_or made i 0
-    enough = omega (arith, b i k, a i k, inventory-covers s.args.f plant slots s.pre.0 i k w l)
+    enough = omega (arith, b i k, a i k, inventory_covers s.args.f plant slots s.pre.0 i k w l)
 
     left_is : get_or made i 0 - sold_in s.args.f slots w i ≡ held (w + 1) i
-    left_is = omega (arith, b i k, a i k, inventory-next s.args.f plant slots s.pre.0 i k w l)
+    left_is = omega (arith, b i k, a i k, inventory_next s.args.f plant slots s.pre.0 i k w l)
 
 module _ (e : tie.In-loop invariant-loop decreases-loop) where
   abbrev begun : tie.Start invariant-loop decreases-loop
@@ -152,7 +152,7 @@ add-production-requires c κs =
       s.pre.0.plant_good,
       week_row_is e,
       omega (arith, few s, b.invariant.6),
-      λ i l. omega (arith, b.invariant.7 i l, inventory-limit s.args.f (plant s) (slots s) s.pre.0 i l b.week (below e)),
+      λ i l. omega (arith, b.invariant.7 i l, inventory_limit s.args.f (plant s) (slots s) s.pre.0 i l b.week (below e)),
     )
 
 write-inventory-row-requires : tie.Need-write-inventory-row-requires invariant-loop decreases-loop

@@ -9,7 +9,7 @@ use lib.ListN.{length, get_or}
 use Rattle.numbers.specs.Number.{store}
 use Rattle.contents.specs.File.{start, contents_bytes}
 use Rattle.contents.proofs.Entries.{start_zero, start_next, start_below}
-use Rattle.contents.proofs.FileStored.{first_bodies, contents-first, stretch-stored}
+use Rattle.contents.proofs.FileStored.{first_bodies, contents_first, stretch_stored}
 use Rattle.sections.specs.declared.Shape.{Shape}
 use Rattle.plant_file.specs.Kinds.{plant_kind}
 use Rattle.plant_file.specs.Plant.{Plant, plant_of}
@@ -105,7 +105,7 @@ loop-again c =
       omega (arith, next.before.loop-test.true, count b.before),
       search rules,
       λ s e. ap (put_mid at (length out - at) out) c.before.before.write-body.ensures
-          ∙ stretch-stored 4 1 bodies (lengths d) (rolled_lengths (P d) (X d) a.k (rate d)) s out b.loop.place at (b.loop.invariant.2 s e) from
+          ∙ stretch_stored 4 1 bodies (lengths d) (rolled_lengths (P d) (X d) a.k (rate d)) s out b.loop.place at (b.loop.invariant.2 s e) from
           (omega (arith, inside next)),
     )
 
@@ -120,7 +120,7 @@ returns c =
     let all : b.loop.place ≡ 12 = omega (arith, c.loop-test.false, b.loop.invariant.0, count b.before) in
     let contents =
     ap (λ (g : Shape). store out 0 (contents_bytes (plant_kind g.kind).number 1 (plant_lengths g))) d.rolled-shape.ensures
-    ∙ ap (store out 0) (contents-first 4 1 bodies (lengths d) (rolled_lengths (P d) (X d) a.k (rate d))) in
+    ∙ ap (store out 0) (contents_first 4 1 bodies (lengths d) (rolled_lengths (P d) (X d) a.k (rate d))) in
     b.loop.invariant.2 out (c.before.before.before.before.before.write-contents.ensures ∙ contents)
     ∙ ap (store out 0) (ap (first_bodies 4 1 bodies) all ∙ file_last (P d) (X d) a.k (rate d))
 

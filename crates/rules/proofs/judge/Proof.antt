@@ -12,7 +12,7 @@ use Rattle.plan_file.specs.Plan.{plan_of}
 use Rattle.rules.specs.Verdict.{verdict_of}
 use Rattle.rules.specs.declared.Verdict.TheVariants.{Passed}
 use Rattle.rules.proofs.Profits.{profit_back}
-use Rattle.rules.proofs.Trials.{left, left_all, left-broken, left-next, profit_broken, all_kept}
+use Rattle.rules.proofs.Trials.{left, left_all, left_broken, left_next, profit_broken, all_kept}
 use Rattle.rules.proofs.judge.Statement.{statement}
 use Rattle.rules.proofs.judge.Tie as tie
 
@@ -28,13 +28,13 @@ last c = omega arith
 
 returns : tie.Need-returns invariant-loop decreases-loop
 returns c =
-    sym (left-broken _ _ _ c.before.before.loop-test.true (sym c.before.kept.ensures ∙ not-true _ c.if1.true))
+    sym (left_broken _ _ _ c.before.before.loop-test.true (sym c.before.kept.ensures ∙ not-true _ c.if1.true))
     ∙ c.before.before.before.loop.invariant.1
 
 loop-again : tie.Need-loop-preserved invariant-loop decreases-loop
 loop-again c =
     let kept = sym c.before.kept.ensures ∙ not-false _ c.if1.false in
-    (search rules, rw add-one (sym (left-next _ _ _ c.before.before.loop-test.true kept) ∙ c.before.before.before.loop.invariant.1))
+    (search rules, rw add-one (sym (left_next _ _ _ c.before.before.loop-test.true kept) ∙ c.before.before.before.loop.invariant.1))
 
 returns-2 : tie.Need-returns-2 invariant-loop decreases-loop
 returns-2 c =

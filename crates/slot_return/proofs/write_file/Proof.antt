@@ -4,7 +4,7 @@ use native.Mathlib.Omega.{arith}
 use mathlib.Core.Path.{ap, ◌∙◌}
 use lib.ListN.{length-take, length-drop}
 use Rattle.numbers.specs.Number.{store}
-use Rattle.slot_return.proofs.ShownFile.{sales_body, contents-stored, body-next, file_stored, starts}
+use Rattle.slot_return.proofs.ShownFile.{sales_body, contents_stored, body_next, file_stored, starts}
 use Rattle.slot_return.proofs.write_file.Statement.{statement}
 use Rattle.slot_return.proofs.write_file.Tie as tie
 
@@ -62,8 +62,8 @@ returns c =
     let plan = s.args.plan.now in
     let total = s.args.total in
     let out = s.args.out.now in
-    let next = body-next f plan total s.requires.1 in
-    let contents = c17.write-contents.ensures ∙ ap (store out 0) (contents-stored f plan total s.requires.1) in
+    let next = body_next f plan total s.requires.1 in
+    let contents = c17.write-contents.ensures ∙ ap (store out 0) (contents_stored f plan total s.requires.1) in
     let counts = next 0 _ out _ _ contents c14.section-start.ensures.0 (sub-write-counts c14) c9.before.before.before.write-counts.ensures in
     let slots = next 1 _ out _ _ counts c9.section-start2.ensures.0 (sub-write-weeks c9) c4.before.before.before.write-weeks.ensures in
     let sales = next 2 _ out _ _ slots c4.section-start3.ensures.0 (sub-write-sales c4)

@@ -11,7 +11,7 @@ use Rattle.plant_file.specs.Plant.{plant_of}
 use Rattle.machine.specs.State.{inventory_of, update_row}
 use Rattle.machine.specs.Files.{week_of_files}
 use Rattle.machine.proofs.Plants.{counts}
-use Rattle.machine.proofs.ProductTables.{inventory_at, in_stock_at, kept_at, new_charge_at, in_stock_all, inventory_all, kept-all, charge-all}
+use Rattle.machine.proofs.ProductTables.{inventory_at, in_stock_at, kept_at, new_charge_at, in_stock_all, inventory_all, kept_all, charge_all}
 use Rattle.machine.proofs.Stores.{cell_next, cell_stored}
 use Rattle.machine.proofs.State.inventory_update.Statement.{statement}
 use Rattle.machine.proofs.State.inventory_update.Tie as tie
@@ -91,8 +91,8 @@ returns c =
     record {
       inventory = b.invariant.1 ∙ inventory_all _ _ _ _ e;
       in_stock = b.invariant.2 ∙ in_stock_all _ _ _ _ e;
-      kept = b.invariant.3 ∙ kept-all _ _ _ _ e room;
-      charge = b.invariant.4 ∙ charge-all _ _ _ _ e room;
+      kept = b.invariant.3 ∙ kept_all _ _ _ _ e room;
+      charge = b.invariant.4 ∙ charge_all _ _ _ _ e room;
       charge_most = omega (arith, b.invariant.5, n);
     }
 

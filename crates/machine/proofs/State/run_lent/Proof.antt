@@ -63,7 +63,7 @@ use Rattle.slot_file.specs.contracts.Slot as slot
 use Rattle.slot_file.proofs.Slot.TheLaws as slot_laws
 use Rattle.machine.specs.contracts.State as state
 use Rattle.machine.specs.contracts.Step as step
-use Rattle.machine.proofs.Parameters.{shape_val, state_val, plant_val, slot_makes, shape-lawful, slot-lawful, state-lawful, step-lawful}
+use Rattle.machine.proofs.Parameters.{shape_val, state_val, plant_val, slot_makes, shape_lawful, slot_lawful, state_lawful, step_lawful}
 use Rattle.machine.proofs.Parameters.{shape_vals, slot_vals, state_vals, shape_tells, slot_tells, state_tells, Plant, Before, plant_twice, passed}
 use Rattle.machine.specs.contracts.State.run_row as run_row
 use Rattle.machine.proofs.State.run_row.Symbol as run-row-def
@@ -216,9 +216,9 @@ module _ {M : Type 1} {𝓤 : Ura M} (𝓛 : Logic 𝓤) (mem-at : Memory → SP
         enter ! C Λ code.function (state_val s ∷ plant_val plant ∷ shape_val f ∷ slots-val ∷ vint w64 n ∷ []) _ $
         alloc1 ! (λ l₀. alloc1 ! (λ l₁. alloc1 ! (λ l₂. alloc1 ! (λ l₃. alloc1 ! (λ l₄. alloc1 ! (λ l₅. alloc1 ! (λ l₆. alloc1 ! (λ l₇. alloc1 ! (λ l₈.
         alloc0 ! $ params1 ! $
-        pass1 ! (init ! 14 refl ((state-lawful 𝓛).typed s _ state-is).0) $
+        pass1 ! (init ! 14 refl ((state_lawful 𝓛).typed s _ state-is).0) $
         pass1 ! (init ! 12 refl ((shr_slice_Lawful 𝓛 (named 0) κ u8).typed plant (plant_val plant ∷ []) plant-is).0) $
-        pass1 ! (init ! 10 refl ((shape-lawful 𝓛).typed f _ Shape-is).0) $
+        pass1 ! (init ! 10 refl ((shape_lawful 𝓛).typed f _ Shape-is).0) $
         pass1 ! (init ! 8 refl typed) $ pass1 ! (init ! 6 refl (tt, record { fits = fits })) $ pass0 ! $
         assigns ! (of_opd ! (load ! (from ! (stop !)) (look ! 8 refl))) (from ! (stop !)) (init ! 4 refl typed) $
         assigns ! (addr ! (from ! (stop !))) (from ! (stop !)) (init ! 2 refl (tt, tt)) $
@@ -254,7 +254,7 @@ module _ {M : Type 1} {𝓤 : Ura M} (𝓛 : Logic 𝓤) (mem-at : Memory → SP
         heard ! (Said 𝓛 mem-at run s plant f (take n slots) r) (λ e. split ! $ move ! (1 ∷ []) $
         -- [the result; the tokens; the lender's part; the others; what plant owns; _8; …; _7; …; (_6's right); _5; …; _1; …; room for _0; …]
         peeks ! step.the_row (Is step.the_row) (shows 𝓛 step.the_row) r (u ∷ []) (λ got.
-        land ! (from ! (stop !)) (init ! 20 refl ((step-lawful 𝓛).typed r _ got).0) $
+        land ! (from ! (stop !)) (init ! 20 refl ((step_lawful 𝓛).typed r _ got).0) $
         -- the lifetime is ended, and the array is whole again
         move ! (1 ∷ []) $ split ! $ move ! (1 ∷ []) $ split ! $ lft_end ! tt $ move ! (0 ∷ 4 ∷ []) $ lent_back ! tt $ move ! (0 ∷ 4 ∷ []) $
         use2 𝓛 (‵ (row slot.the_row full_share slots l₆ 0)) (together l₆) $ feq_i ! ℕ (length slots) 16 sixteen $ fjoin ! $
@@ -272,7 +272,7 @@ module _ {M : Type 1} {𝓤 : Ura M} (𝓛 : Logic 𝓤) (mem-at : Memory → SP
         keep ! (2 ∷ 1 ∷ 3 ∷ []) $ by ! (exits r u e))))))))))))))))))
       where
         typed : Holds (has_ty (ty_array slot_laws.mir 16) slots-val) × WT slots-val
-        typed = (Array-Typed slot.the_row (slot-lawful 𝓛).typed 16 slots _ are).0
+        typed = (Array-Typed slot.the_row (slot_lawful 𝓛).typed 16 slots _ are).0
 
 module _ {M : Type 1} {𝓤 : Ura M} (𝓛 : Logic 𝓤) (mem-at : Memory → SProp 𝓤) (run : Routine → Fun 𝓤) where
   open 𝓛 use {H}

@@ -71,10 +71,10 @@ use Rattle.machine.specs.contracts.State as state
 use Rattle.machine.proofs.State.TheLaws as state-laws
 use Rattle.machine.specs.contracts.Step as step
 use Rattle.machine.proofs.Step.TheLaws as step-laws
-use Rattle.machine.proofs.Rows.{none, Reached, Asked, row_starts, row-asks, row_goes, row_ends}
+use Rattle.machine.proofs.Rows.{none, Reached, Asked, row_starts, row_asks, row_goes, row_ends}
 use Rattle.machine.proofs.Parameters.{shape_val, slot_val, state_val, step_val, plant_val, continues_is, start_is, Plant, Before, plant_twice, passed}
 use Rattle.machine.proofs.Parameters.{shape_vals, slot_vals, state_vals, shape_tells, slot_tells, state_tells, step_tells}
-use Rattle.machine.proofs.Parameters.{shape_makes, slot_makes, step_makes, shape-lawful, slot-lawful, state-lawful, step-lawful}
+use Rattle.machine.proofs.Parameters.{shape_makes, slot_makes, step_makes, shape_lawful, slot_lawful, state_lawful, step_lawful}
 use Rattle.machine.specs.contracts.slot_after as slot-after
 use Rattle.machine.proofs.slot_after.Symbol as slot-after-def
 use Rattle.machine.proofs.slot_after.Symbol.{name as #machine·slot-after}
@@ -275,7 +275,7 @@ module _ {M : Type 1} {𝓤 : Ura M} (𝓛 : Logic 𝓤) (mem : Memory → SProp
           slot_tells share slots i none b o l (λ g.
           -- [row[i]; what it owns; the others; what shuts; the fractured borrow; what row owns; what plant owns; plant's token; room for _11; …; _10; …]
           assigns ! (of_opd ! (load ! (from ! (hop ! (look ! 10 refl) (stop !))) (look_raw ! 0 refl))) (from ! (stop !))
-          (init ! 8 refl ((slot-lawful 𝓛).typed t _ g).0) $
+          (init ! 8 refl ((slot_lawful 𝓛).typed t _ g).0) $
           elem_back ! slot.the_row share slots i none (slot_val t ∷ []) b o l $ shuts_slice ! tt slot.the_row share slots b o $
           -- [row's token; the fractured borrow; what row owns; what plant owns; plant's token; _11; …]: plant's slice is Copy
           move ! (3 ∷ 4 ∷ []) $ use1 𝓛 (‵ (Plant κ plant) ⊛ ‵ (Plant κ plant)) (plant_twice 𝓛 κ plant) $ split ! $
@@ -296,7 +296,7 @@ module _ {M : Type 1} {𝓤 : Ura M} (𝓛 : Logic 𝓤) (mem : Memory → SProp
           rewrite ! 0 (λ (y : Step). ‵ ((step.the_row).own_val y (u ∷ []))) e refl $
           -- [what the new step owns; plant's token; what plant owns; row's token; the fractured borrow; what row owns; _11; …]
           peeks ! step.the_row (Is step.the_row) (shows 𝓛 step.the_row) (next i r) (u ∷ []) (λ is'.
-          land ! (from ! (stop !)) (store ! 18 refl ((step-lawful 𝓛).typed (next i r) _ is').0) $ drop ! $
+          land ! (from ! (stop !)) (store ! 18 refl ((step_lawful 𝓛).typed (next i r) _ is').0) $ drop ! $
           rewrite ! 17 (λ (z : Val). ‵ (fat full_share step-laws.mir l₅ 0 z)) (ap only (step_tells (next i r) _ is')) refl $
           assigns_last ! (bin ! (load ! (from ! (stop !)) (look ! 15 refl)) (lit ! tt) (record { fits = fits })) (from ! (stop !))
           (store ! 15 refl (tt, record { fits = fits })) $
@@ -321,7 +321,7 @@ module _ {M : Type 1} {𝓤 : Ura M} (𝓛 : Logic 𝓤) (mem : Memory → SProp
           tested n r false (le-ltb n n (omega arith)) $
           leaves_loop ! (load ! (from ! (stop !)) (look ! 9 refl)) $ exec ! C Λ En body.t-5 (at_ret En Post) $
           assigns ! (of_opd ! (load ! (from ! (stop !)) (look ! 17 refl))) (from ! (stop !))
-          (init ! 27 refl ((step-lawful 𝓛).typed r _ is).0) $
+          (init ! 27 refl ((step_lawful 𝓛).typed r _ is).0) $
           returns ! (look ! 27 refl) $ forget ! 9 refl $ forget ! 11 refl $ forget ! 13 refl $ forget ! 15 refl $ forget ! 17 refl $ forget ! 19 refl $
           forget ! 21 refl $ forget ! 23 refl $ forget ! 25 refl $ forget ! 27 refl $
           move ! (27 ∷ 28 ∷ []) $ free1 ! $ move ! (25 ∷ 26 ∷ []) $ free1 ! $ move ! (23 ∷ 24 ∷ []) $ free1 ! $ move ! (21 ∷ 22 ∷ []) $ free1 ! $
@@ -335,7 +335,7 @@ module _ {M : Type 1} {𝓤 : Ura M} (𝓛 : Logic 𝓤) (mem : Memory → SProp
 
       turn_by : (t : Turn f file slots s) (z : Bool) → ltb t.i n ≡ z → ent 𝓤 (⋆ 𝓛 (At t)) (Wp 𝓤 H C Λ En body.turn-1 (after_turn 𝓤 H (Next t) Left))
       turn_by t true e =
-          more t.i t.now (Next t) t.is (row-asks f file slots s asks t.i t.now t.reached l) l
+          more t.i t.now (Next t) t.is (row_asks f file slots s asks t.i t.now t.reached l) l
           (λ is. qed 𝓛 (At (after is)) ∵ again ! fewer At t (after is) (omega (arith, l)))
         where
           l : t.i < n
@@ -357,8 +357,8 @@ module _ {M : Type 1} {𝓤 : Ura M} (𝓛 : Logic 𝓤) (mem : Memory → SProp
           (record { i = 0; now = continues s; reached = row_starts f file slots s asks; is = start_is s state-is })
 
       -- from the loop on
-      from-loop : Sq 𝓛 (Owned 0 (continues s)) (runs C Λ En body.t-4 (at_ret En Post))
-      from-loop = first ! $ blocks ! $ by ! loops
+      from_loop : Sq 𝓛 (Owned 0 (continues s)) (runs C Λ En body.t-4 (at_ret En Post))
+      from_loop = first ! $ blocks ! $ by ! loops
 
     -- the MIR, up to the loop
     walk : ent 𝓤 (on_entry 𝓛 run_row.signature (κ, (κ', tt)) (q, (q', tt)) (s, (plant, (f, (row, tt)))) at)
@@ -370,21 +370,21 @@ module _ {M : Type 1} {𝓤 : Ura M} (𝓛 : Logic 𝓤) (mem : Memory → SProp
         enter ! C Λ code.function (state_val s ∷ plant_val plant ∷ shape_val f ∷ row_val ∷ []) _ $
         alloc1 ! (λ l₀. alloc1 ! (λ l₁. alloc1 ! (λ l₂. alloc1 ! (λ l₃. alloc1 ! (λ l₄. alloc1 ! (λ l₅. alloc1 ! (λ l₆. alloc1 ! (λ l₇.
         alloc1 ! (λ l₈. alloc1 ! (λ l₉. alloc1 ! (λ l₁₀. alloc1 ! (λ l₁₁. alloc0 ! $ params1 ! $
-        pass1 ! (init ! 20 refl ((state-lawful 𝓛).typed s _ state-is).0) $
+        pass1 ! (init ! 20 refl ((state_lawful 𝓛).typed s _ state-is).0) $
         pass1 ! (init ! 18 refl ((shr_slice_Lawful 𝓛 (named 0) κ u8).typed plant (plant_val plant ∷ []) plant-is).0) $
-        pass1 ! (init ! 16 refl ((shape-lawful 𝓛).typed f _ Shape-is).0) $
+        pass1 ! (init ! 16 refl ((shape_lawful 𝓛).typed f _ Shape-is).0) $
         pass1 ! (init ! 14 refl (tt, (tt, (record { fits = room.0 }, tt)))) $ pass0 ! $
         assigns ! (agg ! (and_then ! (lit ! tt) (no_more !))) (from ! (stop !))
         (init ! 8 refl ((enums.lawful outcome.the_type outcome-laws.the_laws 𝓛 tt).typed Continues _ continues_is).0) $
         assigns ! (agg ! (and_then ! (load ! (from ! (stop !)) (look ! 20 refl)) (and_then ! (load ! (from ! (stop !)) (look ! 8 refl)) (no_more !))))
-        (from ! (stop !)) (init ! 12 refl ((step-lawful 𝓛).typed (continues s) _ (start_is s state-is)).0) $
+        (from ! (stop !)) (init ! 12 refl ((step_lawful 𝓛).typed (continues s) _ (start_is s state-is)).0) $
         assigns ! (of_opd ! (lit ! tt)) (from ! (stop !)) (init ! 10 refl (tt, record { fits = lit< tt })) $
         -- [_11; …; _0; …; the tokens; what the parameters own]: row is Copy, so what it owns is had twice
         move ! (25 ∷ []) $ fsplit ! $ drop ! $ fsplit ! $ move ! (1 ∷ []) $ fsplit ! $ drop ! $ fsplit ! $
         use1 𝓛 (‵ Own ⊛ ‵ Own) ((shr_slice_copy 𝓛 (named 1) κ' slot.the_row).twice row (row_val ∷ [])) $ split ! $
         fsplit ! $ drop ! $ fsplit ! $ drop ! $ move ! (28 ∷ []) $ split ! $ move ! (1 ∷ []) $ split ! $ move ! (3 ∷ 0 ∷ 4 ∷ 6 ∷ 2 ∷ []) $
         move ! (5 ∷ []) $ drop ! $ move ! (5 ∷ []) $ drop ! $
-        from-loop l₀ l₁ l₂ l₃ l₄ l₅ l₆ l₇ l₈ l₉ l₁₀ l₁₁))))))))))))
+        from_loop l₀ l₁ l₂ l₃ l₄ l₅ l₆ l₇ l₈ l₉ l₁₀ l₁₁))))))))))))
 
 module _ {M : Type 1} {𝓤 : Ura M} (𝓛 : Logic 𝓤) (mem : Memory → SProp 𝓤) (run : Routine → Fun 𝓤) where
   open 𝓛 use {H}

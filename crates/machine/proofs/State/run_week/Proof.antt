@@ -8,7 +8,7 @@ use Rattle.slot_file.proofs.SlotReads.{slots_fit}
 use Rattle.machine.specs.Machine.{week_begin}
 use Rattle.machine.specs.Run.{run_slots}
 use Rattle.machine.proofs.Runs.{continued_step, week_stop, week_go}
-use Rattle.machine.proofs.Sanity.{begin_sane, week-slots-kept}
+use Rattle.machine.proofs.Sanity.{begin_sane, week_slots_kept}
 use Rattle.machine.proofs.State.run_week.Statement.{statement}
 use Rattle.machine.proofs.State.run_week.Tie as tie
 
@@ -30,7 +30,7 @@ week-end-requires c κs =
     let fit = slots_fit s.args.f s.args.slots.now p.slots_good (λ i. omega (arith, known.shared-slice-known2.given i)) in
     let r = c.before.before.run-slots.result in
     let goes = sym (ran c.before.before) ∙ continued_step r c.enum-told2.given.1 in
-    (p, week-slots-kept _ _ p.plant_good _ fit p.week_known s.requires.1 r.state goes)
+    (p, week_slots_kept _ _ p.plant_good _ fit p.week_known s.requires.1 r.state goes)
 
 pub run-week-spec : {M : Type 1} → statement M
 run-week-spec =
@@ -42,4 +42,4 @@ run-week-spec =
     (λ c. sym (week_stop _ _ _ _ (ran c.before.before) _ c.enum_told.given.1))
     (λ c. search rules)
     week-end-requires
-    (λ c. c.week-end.ensures ∙ sym (week_go _ _ _ _ (ran c.before.before.before) c.before.enum-told2.given.1)))
+    (λ c. c.week_end_lem.ensures ∙ sym (week_go _ _ _ _ (ran c.before.before.before) c.before.enum-told2.given.1)))

@@ -10,7 +10,7 @@ use Rattle.machine.specs.Files.{week_of_files}
 use Rattle.machine.specs.Bounds.{Roomy}
 use Rattle.machine.proofs.Plants.{counts}
 use Rattle.machine.proofs.Sanity.{sane_roomy}
-use Rattle.machine.proofs.Steps.{tries, week-stops, week_continues, week_parts}
+use Rattle.machine.proofs.Steps.{tries, week_stops_lem, week_continues, week_parts}
 use Rattle.machine.proofs.State.week_end.Statement.{statement}
 use Rattle.machine.proofs.State.week_end.Tie as tie
 
@@ -40,7 +40,7 @@ tested c =
     rw (← carried.due, ← sold.in_stock, ← sold.kept) c.week-outcome.ensures
 
 returns : tie.Need-returns
-returns c = let d = c.before.before in week-stops _ _ _ _ (tested d) _ c.enum_told.given.1
+returns c = let d = c.before.before in week_stops_lem _ _ _ _ (tested d) _ c.enum_told.given.1
 
 returns-2 : tie.Need-returns-2
 returns-2 c =

@@ -8,4 +8,3 @@ pub mod Steps
 pub mod Runs
 pub mod Sanity
 pub mod Rows
-pub mod Parameters

@@ -1,5 +1,7 @@
 // The plant machine: its state, and its three steps as methods by value. Each gives the whole state back, with a stop or without; at a
 // stop it is the state from before the step.
+#![tactic(auto)]
+
 ghost use Rattle.std.specs.Prelude.{◌≡◌, ◌+◌, ◌-◌, ◌^◌, ◌≤◌, ◌<◌, replicate, take};
 ghost use Rattle.sections.specs.declared.Form.TheVariants.{Good};
 ghost use Rattle.plant_file.specs.Plant.{plant_of};
@@ -29,7 +31,7 @@ use units::{
 };
 
 // What belongs to one line.
-#[derive(Drop)]
+#[derive(Clone, Copy)]
 pub struct LineState {
     // Minutes of the week that are used.
     pub clock: Minutes,
@@ -40,7 +42,7 @@ pub struct LineState {
 
 // A number stands between the arrays and what has unused bytes comes last, and no array is indexed where it stands: the compiler can then
 // hold each field apart.
-#[derive(Drop)]
+#[derive(Clone, Copy)]
 pub struct State {
     // Grams owed to customer c of product i, at c * N + i (the paper's owed).
     pub backlog: [u32; 128],
@@ -52,21 +54,21 @@ pub struct State {
 }
 
 // Whether a step stops the run, and with which number.
-#[derive(Drop)]
+#[derive(Clone, Copy)]
 pub enum Outcome {
     Continues,
     Stops(u32),
 }
 
 // What a step gives back.
-#[derive(Drop)]
+#[derive(Clone, Copy)]
 pub struct Step {
     pub state: State,
     pub outcome: Outcome,
 }
 
 // What the end of a week makes of the backlog: the new one, whether every sale is due, what the sales bring, and what it costs.
-#[derive(Drop)]
+#[derive(Clone, Copy)]
 pub struct BacklogUpdate {
     pub backlog: PairGrams,
     pub due: bool,
@@ -76,7 +78,7 @@ pub struct BacklogUpdate {
 
 // What the end of a week makes of the inventory: the new one, whether the sales are in stock, whether the new one is within its limits,
 // and what it costs.
-#[derive(Drop)]
+#[derive(Clone, Copy)]
 pub struct InventoryUpdate {
     pub inventory: ProductGrams,
     pub in_stock: bool,

@@ -1,4 +1,6 @@
 // The model's rules 31 to 41 over a plant file and a plan file.
+#![tactic(auto)]
+
 ghost use Rattle.std.specs.Prelude.{◌≡◌, ◌+◌, ◌*◌, ◌/◌, ◌%◌, ◌≤◌, ◌<◌, ◌^◌, eqb, leb, pos, ◌-ℤ◌};
 ghost use Rattle.mathematics.specs.Below.{sum_below, all_below, implies, within};
 ghost use Rattle.mathematics.specs.Week.{marked_once, shut, rule31, rule32, rule34};
@@ -24,7 +26,7 @@ use units::{
 };
 
 // What the rules say of a plan: its profit, or the number of the first rule that it breaks.
-#[derive(Drop)]
+#[derive(Clone, Copy)]
 pub enum Verdict {
     Passed(Profit),
     Broken(u32),
@@ -363,7 +365,7 @@ fn storage_at(plant: &[u8], plan: &[u8], f: Shape, week: usize, product: usize) 
     mass_within(least, most, mass)
 }
 
-#[derive(Drop)]
+#[derive(Clone, Copy)]
 enum ProductRule {
     Run,
     Production,
@@ -533,7 +535,7 @@ fn backlog_kept(plant: &[u8], plan: &[u8], f: Shape) -> bool
 // ---- rule 41
 
 // What sales bring, and what the backlog costs.
-#[derive(Drop)]
+#[derive(Clone, Copy)]
 struct Market {
     sales: Thousandths,
     backlog: Thousandths,

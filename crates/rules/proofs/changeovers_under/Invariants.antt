@@ -1,0 +1,33 @@
+-- `rules::changeovers_under` meets its contract: the loop has added the arcs below `arc`. Assumes nothing.
+use borrow.Author.Rules.{rules}
+use native.Mathlib.Numerals.{add-one}
+use native.Mathlib.Omega.{arith}
+use native.Mathlib.Nat.{mul-le-mul}
+use mathlib.Core.Path.{◌≡◌, refl, ◌∙◌}
+use Prim.Native.Nat.{ℕ, ◌*◌, ◌/◌, ◌%◌, ◌-◌, ◌≤◌}
+use Rattle.mathematics.specs.Below.{sum_below}
+use Rattle.mathematics.proofs.Tables.{sum_table}
+use Rattle.sections.specs.Limits.{most_changeover_minutes, most_changeover_cents}
+use Rattle.plant_file.specs.Plant.{plant_of}
+use Rattle.plant_file.proofs.PlantInRange.{plant_ranges}
+use Rattle.plan_file.specs.Plan.{plan_of}
+use Rattle.plan_file.specs.Tables.{changeover_table_of}
+use Rattle.costs.specs.Changeover.{changeover_between}
+use Rattle.rules.specs.Rules.{changeovers_under}
+use Rattle.rules.proofs.changeovers_under.Given as goal
+
+-- what an arc of n products takes under its mark
+abbrev pub taken : (n : ℕ) (table marks : ℕ → ℕ → ℕ) → ℕ → ℕ
+taken n table marks a = marks (a / n) (a % n) * changeover_between table (a / n) (a % n)
+
+abbrev pub invariant-loop-arc : goal.invariant-loop-arc
+invariant-loop-arc l =
+    let marks = changeover_table_of l.table (plan_of l.f l.plan).line l.week in
+    (l.arc ≤ l.arcs) × (l.arcs ≤ 256)
+    × (l.minutes ≡ sum_below l.arc (taken l.f.products (plant_of l.f l.plant).line.changeover_minutes marks))
+    × (l.cents ≡ sum_below l.arc (taken l.f.products (plant_of l.f l.plant).line.changeover_cents marks))
+    × (l.minutes ≤ l.arc * most_changeover_minutes)
+    × (l.cents ≤ l.arc * most_changeover_cents)
+
+abbrev pub decreases-loop-arc : goal.decreases-loop-arc
+decreases-loop-arc l = l.arcs - l.arc

@@ -1,0 +1,18 @@
+-- `rules::each_product` meets its contract: the loop has tried the products below `i`. Assumes nothing.
+use borrow.Author.Rules.{rules}
+use native.Mathlib.Numerals.{add-one}
+use native.Mathlib.Omega.{arith}
+use mathlib.Core.Path.{◌≡◌}
+use Prim.Native.Nat.{◌≤◌, ◌-◌}
+use Rattle.mathematics.specs.Below.{all_below}
+use Rattle.plant_file.specs.Plant.{plant_of}
+use Rattle.plan_file.specs.Plan.{plan_of}
+use Rattle.rules.specs.Products.{product_rule}
+use Rattle.rules.proofs.each_product.Goals as goal
+
+pub returns : goal.returns
+returns c = let e : c.loop-i.i ≡ c.args.f.products = omega arith in cc
+
+pub loop-i-preserved : goal.loop-i-preserved
+loop-i-preserved c =
+    (search rules, rw add-one (cc))

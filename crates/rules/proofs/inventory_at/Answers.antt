@@ -1,0 +1,6 @@
+-- `rules::inventory_at` meets its contract. Assumes nothing.
+use borrow.Author.Rules.{rules}
+use Rattle.rules.proofs.inventory_at.Goals as goal
+
+pub returns : goal.returns
+returns c = cc

@@ -1,0 +1,27 @@
+-- `rules::inventory_charge` meets its contract: the loop has added the products below `product`. Assumes nothing.
+use borrow.Author.Rules.{rules}
+use native.Mathlib.Numerals.{add-one}
+use native.Mathlib.Omega.{arith}
+use mathlib.Core.Path.{◌≡◌, refl, ◌∙◌}
+use Prim.Native.Nat.{◌*◌, ◌-◌, ◌≤◌}
+use Rattle.mathematics.specs.Below.{sum_below}
+use Rattle.plant_file.specs.Plant.{plant_of}
+use Rattle.plant_file.proofs.PlantInRange.{plant_ranges}
+use Rattle.plan_file.specs.Plan.{plan_of}
+use Rattle.rules.specs.Rules.{inventory_charge_in}
+use Rattle.rules.proofs.inventory_charge.Goals as goal
+
+pub loop-product-init : goal.loop-product-init
+loop-product-init c =
+    (search rules, omega (arith, (plant_ranges _ _ c.requires.plant).products_most, c.as_usize-n.ensures.0), refl, search rules)
+
+pub loop-product-preserved : goal.loop-product-preserved
+loop-product-preserved c =
+    let d = c in
+    let i = d.loop-product.invariant in
+    let e = d.charge-held.ensures.0 ∙ (λ u. d.inventory_cost.ensures.0 u * d.inventory.ensures.0 u) in
+    (search rules, i.1, rw add-one (omega (arith, i.2, e)), omega (arith, i.3, d.charge-held.ensures.1))
+
+pub returns : goal.returns
+unfolding inventory_charge_in
+returns c = let e : c.loop-product.product ≡ c.args.f.products = omega arith in (cc, omega arith)

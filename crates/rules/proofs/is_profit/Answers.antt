@@ -1,0 +1,16 @@
+-- `rules::is_profit` meets its contract. Assumes nothing.
+use borrow.Author.Rules.{rules}
+use mir.Syntax.{w64}
+use mir.Val.{SFits}
+use Rattle.rules.proofs.Profits.{lost_fits, profit_same}
+use Rattle.rules.proofs.is_profit.Goals as goal
+
+pub returns : goal.returns
+returns c =
+    let s = c in
+    let f : SFits w64 s.args.profit.0 = search rules in
+    profit_same s.args.profit.0 s.args.gained.0 s.args.lost.0 s.requires.0 s.requires.1 f
+
+pub overflow_sub-result : goal.overflow_sub-result
+overflow_sub-result c =
+    lost_fits c.args.profit.0 _ _ c.requires.0 c.requires.1

@@ -1,0 +1,7 @@
+-- `rules::storage_at` meets its contract. Assumes nothing.
+use borrow.Author.Rules.{rules}
+use Rattle.rules.proofs.storage_at.Goals as goal
+
+pub returns : goal.returns
+returns c =
+    cc

@@ -1,5 +1,7 @@
 // Whether a plan passes, and what a plan that passes shows: how many slots each week has, which product each slot has, and what is mounted
 // before each week.
+#![tactic(auto)]
+
 ghost use Rattle.std.specs.Prelude.{◌≡◌, cond, ◌≤◌, ◌<◌, eqb};
 ghost use Rattle.mathematics.specs.Below.{sum_below};
 ghost use Rattle.sections.specs.declared.Form.TheVariants.{Good};
@@ -19,13 +21,13 @@ use sections::{Form, Shape};
 use units::Profit;
 
 // Of a plan that passes: the shape of its plant, and its profit.
-#[derive(Drop)]
+#[derive(Clone, Copy)]
 pub struct Pass {
     pub shape: Shape,
     pub profit: Profit,
 }
 
-#[derive(Drop)]
+#[derive(Clone, Copy)]
 pub enum Judgement {
     Passed(Pass),
     Refused(u32),

@@ -1,4 +1,6 @@
 // Checking a plan, and what the calls that write answer.
+#![tactic(auto)]
+
 ghost use Rattle.std.specs.Prelude.{◌≡◌};
 ghost use Rattle.calls.specs.declared.Written.TheVariants.{Refused};
 ghost use Rattle.calls.specs.Check.{check_of};
@@ -7,14 +9,14 @@ use passed_plan::{Judgement, judge_files};
 use units::Profit;
 
 // What checking says of a plan: its profit, or the number of its refusal.
-#[derive(Drop)]
+#[derive(Clone, Copy)]
 pub enum Check {
     Passed(Profit),
     Refused(u32),
 }
 
 // What a call that writes says: the length of what it wrote, or the number of its refusal.
-#[derive(Drop)]
+#[derive(Clone, Copy)]
 pub enum Written {
     Length(usize),
     Refused(u32),

@@ -1,4 +1,6 @@
 // The text of planreport. Each writer stores its text in the lent output from a position on, and answers the position behind it.
+#![tactic(auto)]
+
 ghost use Rattle.std.specs.Prelude.{◌≡◌, [], ◌∷◌, ◌++◌, ◌+◌, ◌≤◌, ◌<◌, nat_abs, length};
 ghost use Rattle.mathematics.specs.Below.{join_below};
 ghost use Rattle.numbers.specs.Number.{store};

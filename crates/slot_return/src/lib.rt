@@ -1,4 +1,6 @@
 // Slot return: the slots of a plan that passes the rules, as a file.
+#![tactic(auto)]
+
 ghost use Rattle.std.specs.Prelude.{◌≡◌, ◌*◌, ◌≤◌, ◌<◌, length};
 ghost use Rattle.mathematics.specs.Below.{sum_below};
 ghost use Rattle.numbers.specs.Number.{store};

@@ -1,0 +1,14 @@
+-- `report::digit_count` meets its contract: the digits counted, and those of what is left. Assumes nothing.
+use native.Mathlib.Omega.{arith}
+use mathlib.Core.Path.{◌≡◌, ap}
+use Prim.Native.Nat.{◌+◌, ◌≤◌}
+use lib.ListN.{length}
+use Rattle.report.specs.Text.{decimal}
+use Rattle.report.proofs.Decimal.{decimal_small, large_length, decimal_most}
+use Rattle.report.proofs.digit_count.Given as goal
+
+abbrev pub invariant-loop-left : goal.invariant-loop-left
+invariant-loop-left l = (l.left ≤ l.v) × (l.n + length (decimal l.left) ≡ length (decimal l.v) + 1)
+
+abbrev pub decreases-loop-left : goal.decreases-loop-left
+decreases-loop-left l = l.left

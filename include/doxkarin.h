@@ -1,4 +1,4 @@
-/* Doxkarin: the judge of weekly production plans. Link with libdoxkarin.a (rt staticlib doxkarin).
+/* Doxkarin: the judge of weekly production plans. Link with libdoxkarin.a (tools/build).
  *
  * Each call returns 0, or the number of the refusal; on a refusal nothing behind a pointer is changed. A file is a pointer to its bytes and
  * their count: a plant file of kind 1, or of kind 4, which says what is mounted before the first week; a plan file of kind 2; a slot file of

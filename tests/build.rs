@@ -1,4 +1,4 @@
-//! Links the proved archive, which `rt staticlib doxkarin` writes.
+//! Links the proved archive, which `tools/build` puts there.
 
 use std::env;
 use std::path::Path;
@@ -10,7 +10,7 @@ fn main() {
     let archive = folder.join("libdoxkarin.a");
     println!("cargo:rerun-if-changed={}", archive.display());
     if !archive.is_file() {
-        eprintln!("{} is not there: run `rt staticlib doxkarin` first", archive.display());
+        eprintln!("{} is not there: run `tools/build` first", archive.display());
         exit(1);
     }
     println!("cargo:rustc-link-search=native={}", folder.display());

@@ -1,5 +1,7 @@
 // The calls for C and Rust. Each returns 0, or the number of the refusal, and then nothing behind a pointer is changed.
 // include/doxkarin.h declares them.
+#![tactic(auto)]
+
 ghost use Rattle.std.specs.Prelude.{◌≡◌};
 ghost use Rattle.calls.specs.Check.{check_of};
 ghost use Rattle.calls.specs.Answer.{slot_answer, plan_answer, roll_answer, written_in, output_after};

@@ -33,7 +33,7 @@ fn empty_folder(name: &str) -> PathBuf {
 fn run(folder: &Path, arguments: &[&OsStr]) -> Output {
     let program = repository().join("target/bin/planreport");
     let program = program.canonicalize().unwrap_or_else(|error| {
-        panic!("{}: {error}: run `tools/build` first", program.display())
+        panic!("{}: {error}: run `tools/build` before this", program.display())
     });
     Command::new(program)
         .args(arguments)

@@ -27,7 +27,7 @@ fn empty_folder(name: &str) -> PathBuf {
 fn run(program: &str, folder: &Path, arguments: &[&str]) -> Output {
     let path = Path::new(env!("CARGO_MANIFEST_DIR")).join("../target/bin").join(program);
     let path = path.canonicalize().unwrap_or_else(|error| {
-        panic!("{}: {error}: run `tools/build` first", path.display())
+        panic!("{}: {error}: run `tools/build` before this", path.display())
     });
     Command::new(path)
         .args(arguments)

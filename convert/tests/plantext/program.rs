@@ -74,7 +74,7 @@ impl Folder {
     fn proved(&self, program: &str, arguments: &str) -> String {
         let path = repository("target/bin").join(program);
         let path = path.canonicalize().unwrap_or_else(|error| {
-            panic!("{}: {error}: run `tools/build` first", path.display())
+            panic!("{}: {error}: run `tools/build` before this", path.display())
         });
         let mut command = Command::new(path);
         command.args(arguments.split_whitespace()).current_dir(&self.path);

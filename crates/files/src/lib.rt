@@ -1,47 +1,97 @@
 // Files as the programs read and write them, and numbers as their arguments name them.
+#![tactic(auto)]
+
 ghost use Rattle.std.specs.Prelude.{length, ◌≡◌};
-ghost use Rattle.io.specs.Counts.{IsPrefixLen};
+ghost use Rattle.files.specs.Counts.{IsPrefixLen};
 ghost use Rattle.files.specs.Within.{Within};
 ghost use Rattle.files.specs.Numerals.{with_digit, numeral_of};
 
 use calls::Written;
-use libc::{STDERR_FILENO, STDOUT_FILENO};
+use std::env::FillError;
+use std::io::{Read, Write};
+use std::rt::{Env, Files};
+use std::{fs, str};
 
-// Puts the start of a file at the start of buf, and answers how many bytes. One that cannot be read counts as empty.
-pub fn read_file(path: &[u8], buf: &mut [u8]) -> usize
+// 4,096 zeros, which hold any path.
+pub fn buffer() -> [u8; 4096]
+    ensures { 4096 ≡ length result }
+{
+    [0; 4096]
+}
+
+// 65,536 zeros: as much of a file as the programs read, and room for each file that they write.
+pub fn large_buffer() -> [u8; 65536]
+    ensures { 65536 ≡ length result }
+{
+    [0; 65536]
+}
+
+// How many arguments the program was started with, its own name among them.
+pub fn argument_count(rt: &impl Env) -> usize {
+    let mut byte = [0u8; 1];
+    for i in 0..usize::MAX {
+        if let Err(FillError::NotPresent) = rt.arg(i, &mut byte) {
+            return i;
+        }
+    }
+    usize::MAX
+}
+
+// Puts argument i at the start of buf, and answers how many bytes. One that is missing or longer than buf counts as empty.
+pub fn argument(rt: &impl Env, i: usize, buf: &mut [u8]) -> usize
     ensures { IsPrefixLen result buf.new }
 {
-    let fd = os::open_read(path);
-    if fd < 0 {
+    rt.arg(i, buf).unwrap_or(0)
+}
+
+// Puts the start of a file at the start of buf, and answers how many bytes. One that cannot be read counts as empty.
+pub fn read_file(rt: &impl Files, path: &[u8], buf: &mut [u8]) -> usize
+    ensures { IsPrefixLen result buf.new }
+{
+    let Ok(path) = str::from_utf8(path) else {
         return 0;
+    };
+    let Ok(mut file) = fs::open(rt, path) else {
+        return 0;
+    };
+    read_full(&mut file, buf)
+}
+
+// Reads until buf is full, the input ends or a read fails, and answers how many bytes it put at the start of buf.
+fn read_full(file: &mut impl Read, buf: &mut [u8]) -> usize
+    ensures { IsPrefixLen result buf.new }
+{
+    let mut done = 0;
+    while done < buf.len() {
+        let n = file.read(&mut buf[done..]).unwrap_or(0);
+        if n == 0 {
+            break;
+        }
+        done += n;
     }
-    let got = io::read_full(fd, buf);
-    libc::close(fd);
-    got
+    done
 }
 
 // The same of the file that argument i names.
-pub fn read_named(i: usize, buf: &mut [u8]) -> usize
+pub fn read_named(rt: &(impl Env + Files), i: usize, buf: &mut [u8]) -> usize
     ensures { IsPrefixLen result buf.new }
 {
-    let mut name = io::buffer();
-    let n = os::arg(i, &mut name);
-    read_file(&name[..n], buf)
+    let mut name = buffer();
+    let n = argument(rt, i, &mut name);
+    read_file(rt, &name[..n], buf)
 }
 
 // Puts the bytes into the file that argument i names, in the place of what it held, and answers whether all are written.
-pub fn write_named(i: usize, bytes: &[u8]) -> bool {
-    let mut name = io::buffer();
-    let n = os::arg(i, &mut name);
-    let fd = os::open_overwrite(&name[..n]);
-    if fd < 0 {
+pub fn write_named(rt: &(impl Env + Files), i: usize, bytes: &[u8]) -> bool {
+    let mut name = buffer();
+    let n = argument(rt, i, &mut name);
+    let Ok(path) = str::from_utf8(&name[..n]) else {
         return false;
-    }
-    let all = io::write_all(fd, bytes);
-    if libc::close(fd) < 0 {
+    };
+    let Ok(mut file) = fs::create(rt, path) else {
         return false;
-    }
-    all
+    };
+    file.write_all(bytes).is_ok()
 }
 
 // What a text names: a number of 64 bits, or something else.
@@ -88,31 +138,29 @@ fn numeral_of(text: &[u8]) -> Numeral
 }
 
 // The number that argument i names.
-pub fn named_number(i: usize) -> Numeral {
-    let mut name = io::buffer();
-    let n = os::arg(i, &mut name);
+pub fn named_number(rt: &impl Env, i: usize) -> Numeral {
+    let mut name = buffer();
+    let n = argument(rt, i, &mut name);
     numeral_of(&name[..n])
 }
 
 // A line of a word and a number.
-fn print_line(word: &[u8], n: u64) {
-    io::write_all(STDOUT_FILENO, word);
-    io::print_decimal(STDOUT_FILENO, n);
-    io::write_all(STDOUT_FILENO, b"\n");
+fn print_line(rt: &impl Print, word: &str, n: u64) {
+    let _ = println!(rt; "{word}{n}");
 }
 
 // Does what a call that writes said: puts what it wrote into the file that argument i names and prints the length, or prints the
 // number of the refusal and leaves the file as it was.
-pub fn deliver(written: Written, out: &[u8], i: usize)
+pub fn deliver(rt: &(impl Env + Files + Print + Eprint), written: Written, out: &[u8], i: usize)
     requires { Within written (length out.now) }
 {
     match written {
-        Written::Refused(n) => print_line(b"refused ", n as u64),
+        Written::Refused(n) => print_line(rt, "refused ", n as u64),
         Written::Length(n) => {
-            if write_named(i, &out[..n]) {
-                print_line(b"written ", n as u64);
+            if write_named(rt, i, &out[..n]) {
+                print_line(rt, "written ", n as u64);
             } else {
-                io::write_all(STDERR_FILENO, b"the output file cannot be written\n");
+                let _ = eprintln!(rt; "the output file cannot be written");
             }
         }
     }

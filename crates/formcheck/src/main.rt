@@ -1,15 +1,17 @@
 // Prints what the rows of refusal say of each file that its arguments name: the name, a space, and 0 where the file is good or the
 // number of its refusal. The first letters of a name tell the kind of file. Plan and slot files are tried for the plant in plant.bin.
+#![tactic(auto)]
+
 ghost use Rattle.std.specs.Prelude.{◌≡◌};
 ghost use Rattle.sections.specs.Rows.{number_of};
 ghost use Rattle.formcheck.specs.Answer.{answer_of};
 
-use files::read_file;
-use libc::STDOUT_FILENO;
+use files::{argument, argument_count, buffer, large_buffer, read_file};
 use plan_file::plan_form;
 use plant_file::plant_form;
 use sections::{Form, Shape};
 use slot_file::slot_form;
+use std::rt::{Env, Files};
 
 #[derive(Drop)]
 enum Kind {
@@ -51,31 +53,30 @@ fn answer(kind: Kind, file: &[u8], plant: Shape) -> u64
     }
 }
 
-fn report(i: usize, plant: Shape) {
-    let mut name = io::buffer();
-    let n = os::arg(i, &mut name);
-    let mut file = io::large_buffer();
-    let m = read_file(&name[..n], &mut file);
+fn report(rt: &(impl Env + Files + Print), i: usize, plant: Shape) {
+    let mut name = buffer();
+    let n = argument(rt, i, &mut name);
+    let mut file = large_buffer();
+    let m = read_file(rt, &name[..n], &mut file);
     let kind = kind_of(&name[..n]);
-    io::write_all(STDOUT_FILENO, &name[..n]);
-    io::write_all(STDOUT_FILENO, b" ");
-    io::print_decimal(STDOUT_FILENO, answer(kind, &file[..m], plant));
-    io::write_all(STDOUT_FILENO, b"\n");
+    let number = answer(kind, &file[..m], plant);
+    let _ = rt.write_all(&name[..n]);
+    let _ = println!(rt; " {number}");
 }
 
-fn report_all(plant: Shape) {
-    for i in 1..os::arg_count() {
-        report(i, plant);
+fn report_all(rt: &(impl Env + Files + Print), plant: Shape) {
+    for i in 1..argument_count(rt) {
+        report(rt, i, plant);
     }
 }
 
-fn main() {
-    let mut file = io::large_buffer();
-    let n = read_file(b"plant.bin", &mut file);
+fn main(rt: HostRuntime) {
+    let mut file = large_buffer();
+    let n = read_file(&rt, b"plant.bin", &mut file);
     match plant_form(&file[..n]) {
-        Form::Good(plant) => report_all(plant),
+        Form::Good(plant) => report_all(&rt, plant),
         Form::Refused(_) => {
-            io::write_all(STDOUT_FILENO, b"plant.bin is no plant\n");
+            let _ = println!(rt; "plant.bin is no plant");
         }
     }
 }

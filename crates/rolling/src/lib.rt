@@ -1,4 +1,6 @@
 // Rolling on: the plant of the weeks that are left after the first k of a plan that passes, with new rates, as a file.
+#![tactic(auto)]
+
 ghost use Rattle.std.specs.Prelude.{◌≡◌, cond, [], ◌++◌, ◌+◌, ◌*◌, ◌/◌, ◌%◌, ◌-◌, ◌≤◌, ◌<◌, length, get_or};
 ghost use Rattle.mathematics.specs.Week.{shut};
 ghost use Rattle.numbers.specs.Number.{encode, store};

@@ -1,0 +1,20 @@
+-- `rolling::write_file` meets its contract: the contents and the bodies below `place` are stored. Assumes nothing.
+use mathlib.Core.Path.{◌≡◌}
+use mathlib.Core.List.{List}
+use Prim.Native.Nat.{ℕ, ◌-◌, ◌≤◌}
+use lib.ListN.{length}
+use Rattle.numbers.specs.Number.{store}
+use Rattle.contents.proofs.FileStored.{first_bodies}
+use Rattle.plant_file.specs.File.{plant_bodies}
+use Rattle.calls.specs.Answer.{rolled_in}
+use Rattle.rolling.proofs.write_file.Given as goal
+
+-- whatever the contents were stored in
+abbrev pub invariant-loop-place : goal.invariant-loop-place
+invariant-loop-place l =
+    (l.place ≤ 12) × (length l.out ≡ length l.initial.out)
+    × ((s : List ℕ) → l.initial.out ≡ store s 0 (first_bodies 4 1 (plant_bodies (rolled_in l.f l.plant l.plan l.k l.rates)) 0)
+    → l.out ≡ store s 0 (first_bodies 4 1 (plant_bodies (rolled_in l.f l.plant l.plan l.k l.rates)) l.place))
+
+abbrev pub decreases-loop-place : goal.decreases-loop-place
+decreases-loop-place l = 12 - l.place

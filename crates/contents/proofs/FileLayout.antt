@@ -1,6 +1,6 @@
 -- A FILE IS THE LAYOUT OF ITS BODIES: bytes past rows 1 and 2 (11, 12; 21, 22) are `file_of` of the bodies that their contents name.
 -- Assumes nothing.
-use Prim.Native.Nat.{ℕ, zero, ◌+◌, ◌*◌, ◌<◌}
+use Prim.Native.Nat.{ℕ, ◌+◌, ◌*◌, ◌<◌}
 use mathlib.Core.Path.{◌≡◌, sym, ap, ◌∙◌}
 use mathlib.Core.List.{List, [], ◌++◌, map}
 use native.Mathlib.Omega.{arith}

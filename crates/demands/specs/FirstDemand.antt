@@ -1,6 +1,6 @@
 -- THE FIRST DEMAND, over the calls' own definitions: which number each call of the three levels refuses with, and what a refusal of any call leaves.
 -- Assumes nothing.
-use Rattle.std.specs.Prelude.{ℕ, ◌≤◌, ◌<◌, ◌≡◌, ◌↔◌, List, length}
+use Rattle.std.specs.Prelude.{ℕ, ◌<◌, ◌≡◌, ◌↔◌, List, length}
 use Rattle.sections.specs.declared.Shape.{Shape}
 use Rattle.sections.specs.declared.Form.TheVariants as form
 use Rattle.plant_file.specs.Plant.{plant_of}

@@ -2,10 +2,9 @@
 use Prim.Native.Nat.{ℕ, ◌≤◌, ◌<◌}
 use Prim.{Unit}
 use mathlib.Core.Path.{◌≡◌, refl, sym, ap, ◌∙◌}
-use mathlib.Core.Bool.{Bool, true, false, not}
+use mathlib.Core.Bool.{Bool, true, false}
 use mathlib.Core.List.{List, [], ◌∷◌}
 use native.Mathlib.Omega.{arith}
-use lib.Dec.{ltb}
 use lib.IntN.{pos, ◌+ℤ◌, ◌-ℤ◌}
 use borrow.Author.Tests.{le-ltb, ltb-false, not-false}
 use Rattle.mathematics.specs.Below.{within}

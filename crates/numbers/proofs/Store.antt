@@ -5,7 +5,7 @@ use mathlib.Core.List.{List, [], ◌∷◌, ◌++◌, append_assoc, append-nil}
 use native.Mathlib.Omega.{arith}
 use native.Mathlib.Nat.{zero-add}
 use lib.ListN.{length, get_or, take, drop, length-append, length-drop, drop_of_length-le}
-use lib.Seq.{sets, sets-eq, length-sets, length-take-le, take-nil, drop-nil, take_all, take-take, drop-drop}
+use lib.Seq.{sets-eq, length-sets, length-take-le, take-nil, drop-nil, take_all, take-take, drop-drop}
 use lib.Seq.{take_at, drop-append-add, get_or-take, get_or-drop}
 use borrow.Rule.Slice.PartMut.{mid_of, put_mid}
 use native.Mathlib.Numerals.{add-one}

@@ -8,7 +8,7 @@ use lib.Dec.{ltb}
 use lib.IntN.{ℤ, pos, negsuc}
 use lib.Signed.{mag, lt_z}
 use mir.Syntax.{w64}
-use mir.Val.{Fits, SFits, of_z, to_z, sel}
+use mir.Val.{SFits, of_z, to_z, sel}
 use mir.ValLaws.{to_z-of_z, of_z-to_z, to_z-Fits, of_z_fits}
 use Rattle.numbers.specs.Signed.{signed_of, unsigned_of}
 

@@ -31,7 +31,7 @@ use Rattle.model.proofs.GivenPlans.{given_mounted}
 use Rattle.model.proofs.Agreement.{passing_runs, fits_binary}
 use Rattle.passed_plan.specs.declared.Pass.{Pass}
 use Rattle.passed_plan.specs.declared.Judgement.{Judgement}
-use Rattle.passed_plan.specs.declared.Judgement.TheVariants.{Passed, Refused}
+use Rattle.passed_plan.specs.declared.Judgement.TheVariants.{Passed}
 use Rattle.passed_plan.specs.Judgement.{after_rows, after_rules, plan_judgement, judgement_of}
 use Rattle.passed_plan.specs.Shown.{week_count, week_product, week_mounted, shown_in, Ordered}
 

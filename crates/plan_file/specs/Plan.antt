@@ -1,6 +1,6 @@
 -- The numbers of a plan file, section by section, as paper 01 lists them under "Files"; the letters are source 004's. Weeks, products
 -- and customers count from 0. Assumes nothing.
-use Rattle.std.specs.Prelude.{ℕ, ◌+◌, ◌*◌, ◌<◌, ◌≤◌, ◌^◌, ◌≡◌, List, ℤ}
+use Rattle.std.specs.Prelude.{ℕ, ◌+◌, ◌*◌, ◌<◌, ◌^◌, ◌≡◌, List, ℤ}
 use Rattle.std.specs.Int.{w64}
 use Rattle.std.proofs.Common.{SFits}
 use Rattle.numbers.specs.Signed.{signed_of}

@@ -17,7 +17,7 @@ use Rattle.slot_file.specs.declared.SlotRow.{SlotRow}
 use Rattle.slot_file.proofs.SlotReads.{slots_formed}
 use Rattle.machine.specs.declared.State.{State}
 use Rattle.machine.specs.State.{inventory_of, backlog_of, continues}
-use Rattle.machine.specs.Run.{opening, run, after}
+use Rattle.machine.specs.Run.{run, after}
 use Rattle.costs.specs.Mounted.{mounted_below}
 use Rattle.model.specs.RunTables.{minutes_of, mounted_at, run_tables}
 use Rattle.model.proofs.States.{opening_inventory, opening_backlog}

@@ -1,5 +1,7 @@
 // Plan writing: the plan file of a run without a stop, body by body in file order. The line's tables start as 0 and each slot stores its
 // number; inventory and backlog follow their balances.
+#![tactic(auto)]
+
 ghost use Rattle.std.specs.Prelude.{◌≡◌, [], ℕ, ◌+◌, ◌*◌, ◌-◌, ◌/◌, ◌%◌, ◌≤◌, ◌<◌, length, get_or, replicate};
 ghost use Rattle.mathematics.specs.Below.{is};
 ghost use Rattle.numbers.specs.Number.{encode, store};

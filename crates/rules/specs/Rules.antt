@@ -1,6 +1,6 @@
 -- The model's rules 33 and 35 to 41, in the paper's words. Rules 31, 32 and 34 are of one week's tables and stand in `mathematics`. The rules
 -- of a line, up to 36, take the line's own numbers and tables. Assumes nothing.
-use Rattle.std.specs.Prelude.{ℕ, zero, suc, ◌+◌, ◌*◌, Bool, true, false, ◌&&◌, cond, eqb, leb, ℤ, pos, negsuc, ◌-ℤ◌}
+use Rattle.std.specs.Prelude.{ℕ, zero, suc, ◌+◌, ◌*◌, Bool, false, ◌&&◌, cond, eqb, leb, ℤ, pos, negsuc, ◌-ℤ◌}
 use Rattle.mathematics.specs.Below.{sum_below, all_below, within}
 use Rattle.mathematics.specs.Week.{WeekTables, shut}
 use Rattle.plant_file.specs.Plant.{LinePlant, Plant}

@@ -1,6 +1,5 @@
 -- `calls::check_plan` meets its contract. Assumes nothing.
-use borrow.Author.Rules.{rules}
-use mathlib.Core.Path.{sym, ◌∙◌}
+use mathlib.Core.Path.{sym}
 use Rattle.calls.specs.Check.{check_of}
 use Rattle.calls.proofs.check_plan.Goals as goal
 

@@ -1,5 +1,4 @@
 -- `contents::has_numbers` meets its contract. Assumes nothing.
-use borrow.Author.Rules.{rules}
 use Rattle.contents.proofs.has_numbers.Goals as goal
 
 pub returns : goal.returns

@@ -1,5 +1,4 @@
 -- `contents::is_headed` meets its contract. Assumes nothing.
-use borrow.Author.Rules.{rules}
 use borrow.Author.Tests.{le-leb, lt-leb}
 use Rattle.contents.specs.Contents.{headed}
 use Rattle.contents.proofs.is_headed.Goals as goal

@@ -2,11 +2,8 @@
 use borrow.Author.Rules.{rules}
 use native.Mathlib.Omega.{arith}
 use mathlib.Core.Path.{◌≡◌, ap, refl}
-use Prim.Native.Nat.{◌≤◌, ◌-◌}
-use lib.Dec.{eqb}
-use Rattle.mathematics.specs.Below.{all_below}
 use native.Mathlib.Numerals.{add-one}
-use Rattle.contents.specs.Contents.{offset, edge, placed}
+use Rattle.contents.specs.Contents.{placed}
 use Rattle.contents.specs.declared.Entry.{Entry}
 use Rattle.contents.proofs.is_placed.Goals as goal
 

@@ -1,13 +1,9 @@
 -- `contents::is_placed` meets its contract: `end` is where the body in place `i` has to begin. Assumes nothing.
-use borrow.Author.Rules.{rules}
-use native.Mathlib.Omega.{arith}
-use mathlib.Core.Path.{◌≡◌, ap, refl}
+use mathlib.Core.Path.{◌≡◌}
 use Prim.Native.Nat.{◌≤◌, ◌-◌}
 use lib.Dec.{eqb}
 use Rattle.mathematics.specs.Below.{all_below}
-use native.Mathlib.Numerals.{add-one}
-use Rattle.contents.specs.Contents.{offset, edge, placed}
-use Rattle.contents.specs.declared.Entry.{Entry}
+use Rattle.contents.specs.Contents.{offset, edge}
 use Rattle.contents.proofs.is_placed.Given as goal
 
 abbrev pub invariant-loop-i : goal.invariant-loop-i

@@ -2,12 +2,9 @@
 use borrow.Author.Rules.{rules}
 use native.Mathlib.Omega.{arith}
 use mathlib.Core.Path.{◌≡◌, ap}
-use Prim.Native.Nat.{◌≤◌, ◌-◌}
-use lib.ListN.{length, get_or}
-use lib.Dec.{eqb}
-use Rattle.mathematics.specs.Below.{all_below}
+use lib.ListN.{length}
 use native.Mathlib.Numerals.{add-one}
-use Rattle.contents.specs.Contents.{extent, sized}
+use Rattle.contents.specs.Contents.{sized}
 use Rattle.contents.specs.declared.Entry.{Entry}
 use Rattle.contents.proofs.is_sized.Goals as goal
 

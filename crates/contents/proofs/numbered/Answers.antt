@@ -2,11 +2,7 @@
 use borrow.Author.Rules.{rules}
 use native.Mathlib.Omega.{arith}
 use mathlib.Core.Path.{◌≡◌, ap}
-use Prim.Native.Nat.{◌≤◌, ◌-◌, ◌+◌}
-use lib.Dec.{eqb}
-use Rattle.mathematics.specs.Below.{all_below}
 use native.Mathlib.Numerals.{add-one}
-use Rattle.contents.specs.Contents.{entry}
 use Rattle.contents.specs.declared.Entry.{Entry}
 use Rattle.contents.proofs.numbered.Goals as goal
 

@@ -1,13 +1,9 @@
 -- `contents::numbered` meets its contract: the loop has tried the sections below `i`. Assumes nothing.
-use borrow.Author.Rules.{rules}
-use native.Mathlib.Omega.{arith}
-use mathlib.Core.Path.{◌≡◌, ap}
+use mathlib.Core.Path.{◌≡◌}
 use Prim.Native.Nat.{◌≤◌, ◌-◌, ◌+◌}
 use lib.Dec.{eqb}
 use Rattle.mathematics.specs.Below.{all_below}
-use native.Mathlib.Numerals.{add-one}
 use Rattle.contents.specs.Contents.{entry}
-use Rattle.contents.specs.declared.Entry.{Entry}
 use Rattle.contents.proofs.numbered.Given as goal
 
 abbrev pub invariant-loop-i : goal.invariant-loop-i

@@ -1,5 +1,4 @@
 -- `contents::write_contents` meets its contract: kind, count and entries, each stored where the one before ends. Assumes nothing.
-use borrow.Author.Rules.{rules}
 use borrow.Rule.Slice.PartMut.{put_mid}
 use native.Mathlib.Omega.{arith}
 use mathlib.Core.Path.{ap, ◌∙◌}
@@ -15,15 +14,13 @@ use Rattle.contents.proofs.write_contents.Goals as goal
 pub returns : goal.returns
 unfolding contents_bytes
 returns c =
-    let c6 = c in
-    let c10 = c6 in
-    let a = c10.args in
-    let out = c6.write-2.new.out in
+    let a = c.args in
+    let out = c.write-2.new.out in
     let l = a.lengths.now in
     let kind = digits 1 a.kind in
     let count = digits 1 (length l) in
     let entries = join_below (length l) (entry_bytes a.first l) in
     ap (put_mid 2 (length out - 2) out) c.write_entries.ensures
     ∙ (part_store out 2 entries (omega arith)
-    ∙ (ap (λ (s : List ℕ). store s 2 entries) (c6.write-2.ensures ∙ ap (λ (s : List ℕ). store s 1 count) c10.write.ensures)
+    ∙ (ap (λ (s : List ℕ). store s 2 entries) (c.write-2.ensures ∙ ap (λ (s : List ℕ). store s 1 count) c.write.ensures)
     ∙ store_three a.out.now kind count entries))

@@ -3,12 +3,11 @@ use borrow.Author.Rules.{rules}
 use borrow.Rule.Slice.PartMut.{mid_of, put_mid}
 use native.Mathlib.Omega.{arith}
 use mathlib.Core.Path.{◌≡◌, refl, sym, ap, ◌∙◌}
-use Prim.Native.Nat.{ℕ, ◌≤◌, ◌-◌, ◌+◌, ◌*◌}
+use Prim.Native.Nat.{ℕ, ◌-◌, ◌+◌}
 use lib.ListN.{length, get_or}
-use Rattle.mathematics.specs.Below.{join_below}
 use Rattle.numbers.specs.Number.{store}
 use Rattle.numbers.proofs.Store.{store_join, part_store}
-use Rattle.contents.specs.File.{start, entry_bytes}
+use Rattle.contents.specs.File.{entry_bytes}
 use Rattle.contents.proofs.Entries.{entries_length, entry_of, start_zero, start_next, start_below}
 use Rattle.contents.proofs.write_entries.Goals as goal
 
@@ -17,10 +16,9 @@ loop-i-init c = (search rules, search rules, sym (start_zero c.args.lengths.now)
 
 pub overflow_add-offset-in-loop-i : goal.overflow_add-offset-in-loop-i
 overflow_add-offset-in-loop-i c =
-    let s = c in
     let b = c.loop-i in
-    let l = s.args.lengths.now in
-    omega (arith, b.invariant.2, start_next l b.i, start_below l (b.i + 1) (omega arith), s.requires.0.offsets)
+    let l = c.args.lengths.now in
+    omega (arith, b.invariant.2, start_next l b.i, start_below l (b.i + 1) (omega arith), c.requires.0.offsets)
 
 pub loop-i-preserved : goal.loop-i-preserved
 loop-i-preserved c =

@@ -1,15 +1,10 @@
 -- `contents::write_entries` meets its contract: the loop has stored the entries below `i`. Assumes nothing.
-use borrow.Author.Rules.{rules}
-use borrow.Rule.Slice.PartMut.{mid_of, put_mid}
-use native.Mathlib.Omega.{arith}
-use mathlib.Core.Path.{◌≡◌, refl, sym, ap, ◌∙◌}
-use Prim.Native.Nat.{ℕ, ◌≤◌, ◌-◌, ◌+◌, ◌*◌}
-use lib.ListN.{length, get_or}
+use mathlib.Core.Path.{◌≡◌}
+use Prim.Native.Nat.{◌≤◌, ◌-◌, ◌+◌, ◌*◌}
+use lib.ListN.{length}
 use Rattle.mathematics.specs.Below.{join_below}
 use Rattle.numbers.specs.Number.{store}
-use Rattle.numbers.proofs.Store.{store_join, part_store}
 use Rattle.contents.specs.File.{start, entry_bytes}
-use Rattle.contents.proofs.Entries.{entries_length, entry_of, start_zero, start_next, start_below}
 use Rattle.contents.proofs.write_entries.Given as goal
 
 abbrev pub invariant-loop-i : goal.invariant-loop-i

@@ -1,5 +1,4 @@
 -- `costs::changeover` meets its contract. Assumes nothing.
-use borrow.Author.Rules.{rules}
 use Rattle.costs.specs.Changeover.{changeover_between}
 use Rattle.costs.proofs.changeover.Goals as goal
 

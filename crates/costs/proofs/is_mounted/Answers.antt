@@ -1,5 +1,4 @@
 -- `costs::is_mounted` meets its contract. Assumes nothing.
-use borrow.Author.Rules.{rules}
 use native.Mathlib.Omega.{arith}
 use mathlib.Core.Path.{sym, ◌∙◌}
 use Rattle.mathematics.proofs.Below.{is_same, is_other}

@@ -3,7 +3,6 @@ use Prim.Native.Nat.{◌<◌}
 use Prim.{tt}
 use mathlib.Core.Path.{refl, ap}
 use mathlib.Core.Logic.{inl, inr}
-use borrow.Author.Rules.{rules}
 use borrow.Author.Tests.{eq-eqb, ne_eqb}
 use native.Mathlib.Omega.{arith}
 use Rattle.sections.specs.Limits.{nothing_mounted}

@@ -1,11 +1,10 @@
 -- `machine::opening_row` meets its contract: the loop has stored the products below `product`. Assumes nothing.
-use Prim.Native.Nat.{ℕ, ◌+◌, ◌-◌, ◌≤◌}
+use Prim.Native.Nat.{ℕ, ◌+◌, ◌≤◌}
 use mathlib.Core.Path.{◌≡◌, refl}
 use borrow.Author.Rules.{rules}
 use native.Mathlib.Omega.{arith}
 use lib.ListN.{replicate}
 use Rattle.plant_file.specs.Plant.{plant_of}
-use Rattle.machine.specs.State.{update_row}
 use Rattle.machine.proofs.Plants.{counts}
 use Rattle.machine.proofs.Stores.{row_stored}
 use Rattle.machine.proofs.opening_row.Goals as goal

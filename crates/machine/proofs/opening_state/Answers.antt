@@ -1,5 +1,4 @@
 -- `machine::opening_state` meets its contract. Assumes nothing.
-use borrow.Author.Rules.{rules}
 use Rattle.machine.specs.Run.{opening}
 use Rattle.machine.proofs.opening_state.Goals as goal
 

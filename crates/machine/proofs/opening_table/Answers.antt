@@ -1,11 +1,10 @@
 -- `machine::opening_table` meets its contract: the loop has stored the pairs below `pair`. Assumes nothing.
-use Prim.Native.Nat.{ℕ, ◌+◌, ◌*◌, ◌-◌, ◌/◌, ◌%◌, ◌≤◌}
+use Prim.Native.Nat.{ℕ, ◌+◌, ◌*◌, ◌/◌, ◌%◌, ◌≤◌}
 use mathlib.Core.Path.{◌≡◌, refl}
 use borrow.Author.Rules.{rules}
 use native.Mathlib.Omega.{arith}
 use lib.ListN.{replicate}
 use Rattle.plant_file.specs.Plant.{plant_of}
-use Rattle.machine.specs.State.{update_row}
 use Rattle.machine.proofs.Plants.{counts}
 use Rattle.machine.proofs.Flat.{rows_flat}
 use Rattle.machine.proofs.Stores.{row_stored}
@@ -18,16 +17,14 @@ place c = omega (arith, c.loop-pair-test.true, c.area-pairs.ensures.0, (counts _
 
 pub loop-pair-preserved : goal.loop-pair-preserved
 loop-pair-preserved c =
-    let start = c in
-    let a = start.args in
+    let a = c.args in
     let opened : ℕ → ℕ → ℕ = λ k v. (plant_of a.f a.plant.now).opening_backlog (k / a.f.products) (k % a.f.products) in
     let turn = c.loop-pair in
     (search rules, rw turn.invariant.1 (row_stored turn.pair _ opened (replicate 128 0) c.pair_opening_backlog.ensures.0))
 
 pub returns : goal.returns
 returns c =
-    let start = c in
-    let e : c.loop-pair.pair ≡ start.args.f.customers * start.args.f.products = omega arith in
+    let e : c.loop-pair.pair ≡ c.args.f.customers * c.args.f.products = omega arith in
     rw (rows_flat, ← e) c.loop-pair.invariant.1
 
 pub loop-pair-init : goal.loop-pair-init

@@ -1,14 +1,9 @@
 -- `machine::opening_table` meets its contract: the loop has stored the pairs below `pair`. Assumes nothing.
-use Prim.Native.Nat.{ℕ, ◌+◌, ◌*◌, ◌-◌, ◌/◌, ◌%◌, ◌≤◌}
-use mathlib.Core.Path.{◌≡◌, refl}
-use borrow.Author.Rules.{rules}
-use native.Mathlib.Omega.{arith}
+use Prim.Native.Nat.{◌-◌, ◌/◌, ◌%◌, ◌≤◌}
+use mathlib.Core.Path.{◌≡◌}
 use lib.ListN.{replicate}
 use Rattle.plant_file.specs.Plant.{plant_of}
 use Rattle.machine.specs.State.{update_row}
-use Rattle.machine.proofs.Plants.{counts}
-use Rattle.machine.proofs.Flat.{rows_flat}
-use Rattle.machine.proofs.Stores.{row_stored}
 use Rattle.machine.proofs.opening_table.Given as goal
 
 abbrev pub invariant-loop-pair : goal.invariant-loop-pair

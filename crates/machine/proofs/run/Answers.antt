@@ -1,17 +1,14 @@
 -- `machine::run` meets its contract: what is left to run, from `week` on, gives what the whole run gives. Assumes nothing.
-use Prim.Native.Nat.{◌-◌, ◌≤◌}
-use mathlib.Core.Path.{◌≡◌, sym, ◌∙◌}
+use Prim.Native.Nat.{◌≤◌}
+use mathlib.Core.Path.{sym, ◌∙◌}
 use borrow.Author.Rules.{rules}
 use native.Mathlib.Omega.{arith}
 use native.Mathlib.Nat.{sub-zero}
 use Rattle.plant_file.specs.Plant.{plant_of}
 use Rattle.slot_file.specs.Slots.{slots_of}
 use Rattle.slot_file.proofs.SlotReads.{slots_fit}
-use Rattle.machine.specs.declared.Outcome.TheVariants.{Continues}
-use Rattle.machine.specs.State.{and_then}
 use Rattle.machine.specs.Machine.{week_input}
-use Rattle.machine.specs.Run.{run_week, run_weeks, run}
-use Rattle.machine.specs.Bounds.{Sane}
+use Rattle.machine.specs.Run.{run_week, run}
 use Rattle.machine.specs.Files.{Readable}
 use Rattle.machine.proofs.Runs.{continued_step, then_continued, weeks_end, weeks_next}
 use Rattle.machine.proofs.Sanity.{opening_sane, week_kept}
@@ -29,17 +26,14 @@ readable : (c : In-loop-week) → let start = c in
     let a = start.args in Readable a.f a.plant.now a.slots.now c.loop-week.week
 readable c =
     let start = c in
-    let counted = c in
-    record { plant_good = start.requires.0; slots_good = start.requires.1; week_known = omega (arith, c.loop-week-test.true, counted.as_usize-weeks.ensures.0) }
+    record { plant_good = start.requires.0; slots_good = start.requires.1; week_known = omega (arith, c.loop-week-test.true, c.as_usize-weeks.ensures.0) }
 
 pub loop-week-preserved : goal.loop-week-preserved
 loop-week-preserved c =
-    let test = c in
-    let b = test.loop-week in
-    let known = test in
-    let a = known.args in
-    let read = readable (goal.at.loop-week-preserved test).In-loop-week in
-    let fit = slots_fit a.f a.slots.now read.slots_good (λ i. omega (arith, known.shared_slice_known-2-1.given i)) in
+    let b = c.loop-week in
+    let a = c.args in
+    let read = readable (goal.at.loop-week-preserved c).In-loop-week in
+    let fit = slots_fit a.f a.slots.now read.slots_good (λ i. omega (arith, c.shared_slice_known-2-1.given i)) in
     let P = plant_of a.f a.plant.now in
     let S = slots_of a.f a.slots.now in
     let r = c.week_after-r in (
@@ -53,9 +47,7 @@ loop-week-preserved c =
 
 pub returns : goal.returns
 returns c =
-    let start = c in
-    let counted = c in
-    let h : start.args.f.weeks ≤ c.loop-week.week = omega (arith, c.loop-week-test.false, counted.as_usize-weeks.ensures.0) in
+    let h : c.args.f.weeks ≤ c.loop-week.week = omega (arith, c.loop-week-test.false, c.as_usize-weeks.ensures.0) in
     sym (weeks_end _ _ _ _ _ h) ∙ c.loop-week.invariant.2
 
 pub week_after-r-requires : goal.week_after-r-requires

@@ -1,20 +1,13 @@
 -- `machine::run` meets its contract: what is left to run, from `week` on, gives what the whole run gives. Assumes nothing.
 use Prim.Native.Nat.{◌-◌, ◌≤◌}
-use mathlib.Core.Path.{◌≡◌, sym, ◌∙◌}
-use borrow.Author.Rules.{rules}
-use native.Mathlib.Omega.{arith}
-use native.Mathlib.Nat.{sub-zero}
+use mathlib.Core.Path.{◌≡◌}
 use Rattle.plant_file.specs.Plant.{plant_of}
 use Rattle.slot_file.specs.Slots.{slots_of}
-use Rattle.slot_file.proofs.SlotReads.{slots_fit}
 use Rattle.machine.specs.declared.Outcome.TheVariants.{Continues}
 use Rattle.machine.specs.State.{and_then}
 use Rattle.machine.specs.Machine.{week_input}
-use Rattle.machine.specs.Run.{run_week, run_weeks, run}
+use Rattle.machine.specs.Run.{run_weeks, run}
 use Rattle.machine.specs.Bounds.{Sane}
-use Rattle.machine.specs.Files.{Readable}
-use Rattle.machine.proofs.Runs.{continued_step, then_continued, weeks_end, weeks_next}
-use Rattle.machine.proofs.Sanity.{opening_sane, week_kept}
 use Rattle.machine.proofs.run.Given as goal
 
 abbrev pub invariant-loop-week : goal.invariant-loop-week

@@ -1,6 +1,5 @@
 -- `machine::week_after` meets its contract. Assumes nothing.
 use mathlib.Core.Path.{sym, ◌∙◌}
-use borrow.Author.Rules.{rules}
 use mathlib.Core.List.{List}
 use Prim.Native.Nat.{ℕ}
 use Rattle.sections.specs.declared.Shape.{Shape}
@@ -18,7 +17,7 @@ next f plant slots week = run_week (plant_of f plant) (week_of_files f plant slo
 
 pub returns-in-Stops : goal.returns-in-Stops
 returns-in-Stops c =
-    let s = c in sym (then_stops s.args.r (next s.args.f s.args.plant.now s.args.slots.now s.args.week) _ c.in-Stops.is)
+    sym (then_stops c.args.r (next c.args.f c.args.plant.now c.args.slots.now c.args.week) _ c.in-Stops.is)
 
 pub run_week-requires : goal.run_week-requires
 run_week-requires c =
@@ -26,5 +25,4 @@ run_week-requires c =
 
 pub returns : goal.returns
 returns c =
-    let s = c in
-    c.run_week.ensures ∙ sym (then_continues s.args.r (next s.args.f s.args.plant.now s.args.slots.now s.args.week) c.in_default.is)
+    c.run_week.ensures ∙ sym (then_continues c.args.r (next c.args.f c.args.plant.now c.args.slots.now c.args.week) c.in_default.is)

@@ -1,5 +1,4 @@
 -- `numbers::unsigned` meets its contract. Assumes nothing.
-use Rattle.std.proofs.Common.{arith}
 use mir.ValLaws.{to_z-of_z}
 use mir.Syntax.{w64}
 use Rattle.numbers.proofs.TwosComplement.{Negative, negative, natural, unsigned_is}

@@ -1,5 +1,4 @@
 -- `passed_plan::chosen` meets its contract. Assumes nothing.
-use borrow.Author.Rules.{rules}
 use borrow.Author.Tests.{eq-eqb, ne_eqb}
 use Rattle.passed_plan.proofs.chosen.Goals as goal
 

@@ -1,6 +1,5 @@
 -- `passed_plan::judge_files` meets its contract. Assumes nothing.
-use borrow.Author.Rules.{rules}
-use mathlib.Core.Path.{◌≡◌, sym, ◌∙◌}
+use mathlib.Core.Path.{◌≡◌, sym}
 use Rattle.sections.specs.declared.Form.TheVariants.{Good}
 use Rattle.plant_file.specs.Form.{plant_form}
 use Rattle.passed_plan.specs.Judgement.{judgement_of}

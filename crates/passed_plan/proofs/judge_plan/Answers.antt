@@ -1,5 +1,4 @@
 -- `passed_plan::judge_plan` meets its contract: past the plan's rows both files are good. Assumes nothing.
-use borrow.Author.Rules.{rules}
 use mathlib.Core.Path.{◌≡◌, sym, ap, ◌∙◌}
 use Rattle.sections.specs.declared.Form.TheVariants.{Good}
 use Rattle.plan_file.specs.Form.{plan_form}
@@ -18,14 +17,12 @@ returns-in-Refused c = rw (sym c.in-Refused.ensures)
 pub returns-in-Passed : goal.returns-in-Passed
 unfolding plan_judgement
 returns-in-Passed c =
-    let judged = c in
-    rw (plan_good (goal.at.returns-in-Passed judged).In-Good, sym judged.in-Passed.ensures)
+    rw (plan_good (goal.at.returns-in-Passed c).In-Good, sym c.in-Passed.ensures)
 
 pub returns-in-Broken : goal.returns-in-Broken
 unfolding plan_judgement
 returns-in-Broken c =
-    let judged = c in
-    rw (plan_good (goal.at.returns-in-Broken judged).In-Good, sym judged.in-Broken.ensures)
+    rw (plan_good (goal.at.returns-in-Broken c).In-Good, sym c.in-Broken.ensures)
 
 pub judge-requires : goal.judge-requires
 judge-requires c =

@@ -4,7 +4,6 @@ use native.Mathlib.Numerals.{add-one}
 use native.Mathlib.Omega.{arith}
 use mathlib.Core.Path.{◌≡◌, refl, ◌∙◌}
 use mathlib.Core.Bool.{cond}
-use Prim.Native.Nat.{◌-◌, ◌≤◌}
 use lib.Dec.{eqb}
 use Rattle.plant_file.specs.Plant.{plant_of}
 use Rattle.plan_file.specs.Plan.{plan_of}

@@ -1,18 +1,10 @@
 -- `passed_plan::mounted_product` meets its contract: the loop has looked at the products below `product`. Assumes nothing.
-use borrow.Author.Rules.{rules}
-use native.Mathlib.Numerals.{add-one}
-use native.Mathlib.Omega.{arith}
-use mathlib.Core.Path.{◌≡◌, refl, ◌∙◌}
-use mathlib.Core.Bool.{cond}
+use mathlib.Core.Path.{◌≡◌}
 use Prim.Native.Nat.{◌-◌, ◌≤◌}
-use lib.Dec.{eqb}
 use Rattle.plant_file.specs.Plant.{plant_of}
 use Rattle.plan_file.specs.Plan.{plan_of}
-use Rattle.costs.specs.declared.Mounted.TheVariants.{Product}
-use Rattle.rules.specs.Rules.{mounted_after, mounted_before}
+use Rattle.rules.specs.Rules.{mounted_after}
 use Rattle.model.specs.RunTables.{mounted_of}
-use Rattle.model.proofs.Changeovers.{mounted_of_below}
-use Rattle.passed_plan.specs.Shown.{week_mounted}
 use Rattle.passed_plan.proofs.mounted_product.Given as goal
 
 abbrev pub invariant-loop-product : goal.invariant-loop-product

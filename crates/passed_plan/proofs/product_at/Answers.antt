@@ -3,8 +3,8 @@ use borrow.Author.Rules.{rules}
 use borrow.Author.Count.{below_more}
 use native.Mathlib.Omega.{arith}
 use native.Mathlib.Numerals.{add-one}
-use mathlib.Core.Path.{◌≡◌, sym, ◌∙◌}
-use Prim.Native.Nat.{ℕ, suc, ◌<◌, ◌≤◌, ◌-◌}
+use mathlib.Core.Path.{sym, ◌∙◌}
+use Prim.Native.Nat.{suc}
 use Rattle.mathematics.specs.Order.{product_at}
 use Rattle.plan_file.specs.Plan.{plan_of}
 use Rattle.rules.specs.Rules.{week_of}

@@ -3,9 +3,6 @@ use borrow.Author.Rules.{rules}
 use native.Mathlib.Omega.{arith}
 use native.Mathlib.Numerals.{add-one}
 use mathlib.Core.Path.{◌≡◌}
-use Prim.Native.Nat.{◌≤◌, ◌-◌, ◌*◌}
-use Rattle.mathematics.specs.Below.{sum_below}
-use Rattle.passed_plan.specs.Shown.{week_count}
 use Rattle.passed_plan.proofs.slot_total.Goals as goal
 
 pub loop-week-preserved : goal.loop-week-preserved

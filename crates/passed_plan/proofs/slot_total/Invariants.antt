@@ -1,7 +1,4 @@
 -- `passed_plan::slot_total` meets its contract: the loop has added the slots of the weeks before `week`. Assumes nothing.
-use borrow.Author.Rules.{rules}
-use native.Mathlib.Omega.{arith}
-use native.Mathlib.Numerals.{add-one}
 use mathlib.Core.Path.{◌≡◌}
 use Prim.Native.Nat.{◌≤◌, ◌-◌, ◌*◌}
 use Rattle.mathematics.specs.Below.{sum_below}

@@ -3,9 +3,6 @@ use borrow.Author.Rules.{rules}
 use native.Mathlib.Omega.{arith}
 use native.Mathlib.Numerals.{add-one}
 use mathlib.Core.Path.{◌≡◌}
-use Prim.Native.Nat.{◌≤◌, ◌-◌}
-use Rattle.mathematics.specs.Below.{sum_below}
-use Rattle.plan_file.specs.Plan.{plan_of}
 use Rattle.rules.specs.Rules.{week_of}
 use Rattle.passed_plan.specs.Shown.{week_count}
 use Rattle.passed_plan.proofs.week_count.Goals as goal

@@ -1,13 +1,8 @@
 -- `passed_plan::week_count` meets its contract: the loop has added E of the products below `i`. Assumes nothing.
-use borrow.Author.Rules.{rules}
-use native.Mathlib.Omega.{arith}
-use native.Mathlib.Numerals.{add-one}
 use mathlib.Core.Path.{◌≡◌}
 use Prim.Native.Nat.{◌≤◌, ◌-◌}
 use Rattle.mathematics.specs.Below.{sum_below}
 use Rattle.plan_file.specs.Plan.{plan_of}
-use Rattle.rules.specs.Rules.{week_of}
-use Rattle.passed_plan.specs.Shown.{week_count}
 use Rattle.passed_plan.proofs.week_count.Given as goal
 
 abbrev pub invariant-loop-i : goal.invariant-loop-i

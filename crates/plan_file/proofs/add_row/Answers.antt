@@ -3,7 +3,7 @@ use borrow.Author.Rules.{rules}
 use native.Mathlib.Omega.{arith}
 use native.Mathlib.Numerals.{add-one}
 use mathlib.Core.Path.{◌≡◌, refl, ap, ◌∙◌}
-use Prim.Native.Nat.{ℕ, ◌+◌, ◌-◌, ◌<◌, ◌≤◌}
+use Prim.Native.Nat.{ℕ, ◌+◌, ◌<◌}
 use lib.ListN.{length, get_or, length-set}
 use Rattle.mathematics.specs.Below.{sum_below}
 use Rattle.plan_file.specs.Plan.{plan_of}
@@ -14,9 +14,8 @@ use Rattle.plan_file.proofs.add_row.Goals as goal
 pub overflow_add-into : goal.overflow_add-into
 overflow_add-into c =
     let t = c.loop-to in
-    let s = c in
-    let l : t.to < s.args.f.products = omega arith in
-    omega (arith, t.invariant.3 t.to (omega arith), s.requires.5 t.to l, c.changeover-mark.ensures.1)
+    let l : t.to < c.args.f.products = omega arith in
+    omega (arith, t.invariant.3 t.to (omega arith), c.requires.5 t.to l, c.changeover-mark.ensures.1)
 
 pub loop-to-preserved : goal.loop-to-preserved
 loop-to-preserved c =

@@ -1,14 +1,10 @@
 -- `plan_file::add_row` meets its contract: the loop has added the marks to the products below `to`. Assumes nothing.
-use borrow.Author.Rules.{rules}
-use native.Mathlib.Omega.{arith}
-use native.Mathlib.Numerals.{add-one}
-use mathlib.Core.Path.{◌≡◌, refl, ap, ◌∙◌}
+use mathlib.Core.Path.{◌≡◌}
 use Prim.Native.Nat.{ℕ, ◌+◌, ◌-◌, ◌<◌, ◌≤◌}
-use lib.ListN.{length, get_or, length-set}
+use lib.ListN.{length, get_or}
 use Rattle.mathematics.specs.Below.{sum_below}
 use Rattle.plan_file.specs.Plan.{plan_of}
 use Rattle.plan_file.specs.Tables.{changeover_table_of}
-use Rattle.plan_file.proofs.Counts.{added_below, same_above, below_next}
 use Rattle.plan_file.proofs.add_row.Given as goal
 
 abbrev pub invariant-loop-to : goal.invariant-loop-to

@@ -1,8 +1,6 @@
 -- `plan_file::arc_changeover` meets its contract. Assumes nothing.
-use borrow.Author.Rules.{rules}
 use native.Mathlib.Omega.{arith}
 use mathlib.Core.Path.{sym}
-use Rattle.contents.specs.Contents.{cell}
 use Rattle.sections.proofs.Rows.{width1}
 use Rattle.plan_file.specs.Plan.{line_plan_of, plan_of}
 use Rattle.sections.proofs.Layouts.{table_rows}
@@ -21,17 +19,15 @@ cell_in-requires-in-Between c =
 pub returns-in-Within : goal.returns-in-Within
 unfolding plan_of line_plan_of
 returns-in-Within c =
-    let s = c in
     let p = c.square_place-j.ensures in
     rw c.in-Within.is
-    (bit 3 _ (plan_good _ _ s.requires.0).bits.changeover c.cell_in.ensures
-    (arc_place s.args.week s.args.f.products s.args.arc p.0, p.1, p.2))
+    (bit 3 _ (plan_good _ _ c.requires.0).bits.changeover c.cell_in.ensures
+    (arc_place c.args.week c.args.f.products c.args.arc p.0, p.1, p.2))
 
 pub returns-in-Between : goal.returns-in-Between
 unfolding plan_of line_plan_of
 returns-in-Between c =
-    let s = c in
     let p = c.square_place-j.ensures in
     rw c.in-Between.is
-    (bit 4 _ (plan_good _ _ s.requires.0).bits.week_changeover c.cell_in-in-Between.ensures
-    (arc_place s.args.week s.args.f.products s.args.arc p.0, p.1, p.2))
+    (bit 4 _ (plan_good _ _ c.requires.0).bits.week_changeover c.cell_in-in-Between.ensures
+    (arc_place c.args.week c.args.f.products c.args.arc p.0, p.1, p.2))

@@ -3,8 +3,8 @@ use borrow.Author.Rules.{rules}
 use native.Mathlib.Omega.{arith}
 use native.Mathlib.Numerals.{add-one}
 use mathlib.Core.Path.{◌≡◌, refl, ap, ◌∙◌}
-use Prim.Native.Nat.{ℕ, ◌-◌, ◌<◌, ◌≤◌}
-use lib.ListN.{length, get_or, length-set}
+use Prim.Native.Nat.{ℕ}
+use lib.ListN.{length-set}
 use Rattle.mathematics.specs.Below.{sum_below}
 use Rattle.plan_file.specs.Plan.{plan_of}
 use Rattle.plan_file.specs.Tables.{changeover_table_of}

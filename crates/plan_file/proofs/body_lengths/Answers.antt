@@ -1,11 +1,11 @@
 -- `plan_file::body_lengths` meets its contract: the loop has stored the lengths of the bodies below `place`. Assumes nothing.
-use Prim.Native.Nat.{ℕ, zero, suc, ◌*◌, ◌-◌, ◌≤◌, ◌<◌}
+use Prim.Native.Nat.{ℕ, zero, suc, ◌*◌, ◌≤◌, ◌<◌}
 use mathlib.Core.Path.{◌≡◌, refl, sym, ap, ◌∙◌}
 use mathlib.Core.List.{List, [], ◌∷◌, ◌++◌, map}
 use native.Mathlib.Omega.{arith}
 use native.Mathlib.Nat.{mul-le-mul}
 use native.Mathlib.Numerals.{add-one}
-use lib.ListN.{length, get_or, take, length-set}
+use lib.ListN.{get_or, take, length-set}
 use lib.Seq.{take-suc, take-suc-set, take-length}
 use Rattle.sections.specs.Layout.{layout, length_of}
 use Rattle.sections.specs.declared.Layout.{Layout}
@@ -33,13 +33,12 @@ size_most c = let e = c.layout-x.ensures in omega (arith, mul-le-mul e.1 (number
 
 pub loop-place-preserved : goal.loop-place-preserved
 loop-place-preserved c =
-    let d = c in
-    let turn = d.loop-place in
-    let f = d.args.f in
-    let here : turn.place < 12 = omega (arith, d.loop-place-test.true) in (
+    let turn = c.loop-place in
+    let f = c.args.f in
+    let here : turn.place < 12 = omega (arith, c.loop-place-test.true) in (
       omega arith,
       rw (add-one, take-suc-set turn.lengths turn.place _ (omega (arith, turn.invariant.2)), take-suc (plan_lengths f) turn.place 0 (omega arith))
-          (λ u. turn.invariant.1 u ++ (size_is (goal.at.loop-place-preserved d).After-layout-x u ∷ [])),
+          (λ u. turn.invariant.1 u ++ (size_is (goal.at.loop-place-preserved c).After-layout-x u ∷ [])),
       rw length-set turn.invariant.2,
     )
 

@@ -1,5 +1,4 @@
 -- `plan_file::changeover` meets its contract. Assumes nothing.
-use borrow.Author.Rules.{rules}
 use mathlib.Core.Path.{◌∙◌}
 use Rattle.mathematics.proofs.Pairs.{table_at}
 use Rattle.plan_file.specs.Plan.{plan_of}

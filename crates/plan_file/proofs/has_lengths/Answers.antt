@@ -1,5 +1,4 @@
 -- `plan_file::has_lengths` meets its contract. Assumes nothing.
-use borrow.Author.Rules.{rules}
 use Rattle.plan_file.proofs.has_lengths.Goals as goal
 
 pub returns : goal.returns

@@ -2,7 +2,6 @@
 use Prim.Native.Nat.{ℕ, zero, suc, ◌<◌}
 use mathlib.Core.Path.{◌≡◌, refl, ◌∙◌}
 use mathlib.Core.Logic.{◌≢◌}
-use borrow.Author.Rules.{rules}
 use native.Mathlib.Omega.{arith}
 use lib.ListN.{get_or}
 use Rattle.sections.specs.Layout.{layout}
@@ -35,14 +34,12 @@ returns-then-place-eq-WEEK_CHANGEOVER c = let r = c.squares-then-place-eq-WEEK_C
 
 pub returns-then-place-eq-MINUTES : goal.returns-then-place-eq-MINUTES
 returns-then-place-eq-MINUTES c =
-    let n = c in
-    (rw (c.if-place-eq-MINUTES.true, n.as_usize-products.ensures.0, n.as_usize-weeks.ensures.0), omega arith, omega arith, omega arith)
+    (rw (c.if-place-eq-MINUTES.true, c.as_usize-products.ensures.0, c.as_usize-weeks.ensures.0), omega arith, omega arith, omega arith)
 
 pub returns-then-place-eq-PRODUCTION : goal.returns-then-place-eq-PRODUCTION
 returns-then-place-eq-PRODUCTION c =
-    let n = c in
     let e = c.grams.ensures in (
-      rw c.if-place-eq-PRODUCTION.true (e ∙ rw (n.as_usize-products.ensures.0, n.as_usize-weeks.ensures.0)),
+      rw c.if-place-eq-PRODUCTION.true (e ∙ rw (c.as_usize-products.ensures.0, c.as_usize-weeks.ensures.0)),
       rw e (omega arith),
       rw e (omega arith),
       rw e (omega arith),
@@ -50,9 +47,8 @@ returns-then-place-eq-PRODUCTION c =
 
 pub returns-then-place-eq-SALES : goal.returns-then-place-eq-SALES
 returns-then-place-eq-SALES c =
-    let n = c in
     let e = c.grams-then-place-eq-SALES.ensures in (
-      rw c.if-place-eq-SALES.true (e ∙ rw (c.area.ensures.0, n.as_usize-weeks.ensures.0)),
+      rw c.if-place-eq-SALES.true (e ∙ rw (c.area.ensures.0, c.as_usize-weeks.ensures.0)),
       rw e (omega arith),
       rw e (omega arith),
       rw e (omega arith),
@@ -60,9 +56,8 @@ returns-then-place-eq-SALES c =
 
 pub returns-then-place-eq-INVENTORY : goal.returns-then-place-eq-INVENTORY
 returns-then-place-eq-INVENTORY c =
-    let n = c in
     let e = c.grams-then-place-eq-INVENTORY.ensures in (
-      rw c.if-place-eq-INVENTORY.true (e ∙ rw (n.as_usize-products.ensures.0, n.as_usize-weeks.ensures.0)),
+      rw c.if-place-eq-INVENTORY.true (e ∙ rw (c.as_usize-products.ensures.0, c.as_usize-weeks.ensures.0)),
       rw e (omega arith),
       rw e (omega arith),
       rw e (omega arith),
@@ -70,9 +65,8 @@ returns-then-place-eq-INVENTORY c =
 
 pub returns-then-place-eq-BACKLOG : goal.returns-then-place-eq-BACKLOG
 returns-then-place-eq-BACKLOG c =
-    let n = c in
     let e = c.grams-then-place-eq-BACKLOG.ensures in (
-      rw c.if-place-eq-BACKLOG.true (e ∙ rw (c.area-then-place-eq-BACKLOG.ensures.0, n.as_usize-weeks.ensures.0)),
+      rw c.if-place-eq-BACKLOG.true (e ∙ rw (c.area-then-place-eq-BACKLOG.ensures.0, c.as_usize-weeks.ensures.0)),
       rw e (omega arith),
       rw e (omega arith),
       rw e (omega arith),
@@ -83,10 +77,7 @@ returns-then-place-eq-PROFIT c = (rw c.if-place-eq-PROFIT.true, omega arith, ome
 
 pub returns : goal.returns
 returns c =
-    let e4 = c in
-    let n = e4 in
-    let s = n in
     let e =
-    marks s.args.f s.args.place s.requires e4.if-place-eq-CHANGEOVER.false e4.if-place-eq-WEEK_CHANGEOVER.false e4.if-place-eq-MINUTES.false e4.if-place-eq-PRODUCTION.false
+    marks c.args.f c.args.place c.requires c.if-place-eq-CHANGEOVER.false c.if-place-eq-WEEK_CHANGEOVER.false c.if-place-eq-MINUTES.false c.if-place-eq-PRODUCTION.false
     c.if-place-eq-SALES.false c.if-place-eq-INVENTORY.false c.if-place-eq-BACKLOG.false c.if-place-eq-PROFIT.false in
-    (rw (n.as_usize-products.ensures.0, n.as_usize-weeks.ensures.0) e, omega arith, omega arith, omega arith)
+    (rw (c.as_usize-products.ensures.0, c.as_usize-weeks.ensures.0) e, omega arith, omega arith, omega arith)

@@ -1,6 +1,4 @@
 -- `plan_file::plan_form` meets its contract: at each place it is known which rows the plan has passed. Assumes nothing.
-use borrow.Author.Rules.{rules}
-use borrow.Author.Tests.{not-true, not-false}
 use native.Mathlib.Omega.{arith}
 use mathlib.Core.Path.{◌≡◌, sym, ◌∙◌}
 use mathlib.Core.Bool.{true}
@@ -37,25 +35,21 @@ returns-then-not-is_placed c = rw (row11 (goal.at.returns-then-not-is_placed c).
 pub returns-then-not-has_lengths : goal.returns-then-not-has_lengths
 unfolding plan_form
 returns-then-not-has_lengths c =
-    let k = c in
-    rw (row11 (goal.at.returns-then-not-has_lengths k).Else-not-is_headed, row12 (goal.at.returns-then-not-has_lengths k).Else-not-is_placed, sym c.has_lengths.ensures ∙ c.if-not-has_lengths.true)
+    rw (row11 (goal.at.returns-then-not-has_lengths c).Else-not-is_headed, row12 (goal.at.returns-then-not-has_lengths c).Else-not-is_placed, sym c.has_lengths.ensures ∙ c.if-not-has_lengths.true)
 
 pub returns-then-not-is_binary : goal.returns-then-not-is_binary
 unfolding plan_form
 returns-then-not-is_binary c =
-    let k = c in
-    rw (row11 (goal.at.returns-then-not-is_binary k).Else-not-is_headed, row12 (goal.at.returns-then-not-is_binary k).Else-not-is_placed, row13 (goal.at.returns-then-not-is_binary k).Else-not-has_lengths, sym c.is_binary.ensures ∙ c.if-not-is_binary.true)
+    rw (row11 (goal.at.returns-then-not-is_binary c).Else-not-is_headed, row12 (goal.at.returns-then-not-is_binary c).Else-not-is_placed, row13 (goal.at.returns-then-not-is_binary c).Else-not-has_lengths, sym c.is_binary.ensures ∙ c.if-not-is_binary.true)
 
 pub returns : goal.returns
 unfolding plan_form
 returns c =
-    let k = c in
-    rw (row11 (goal.at.returns k).Else-not-is_headed, row12 (goal.at.returns k).Else-not-is_placed, row13 (goal.at.returns k).Else-not-has_lengths, sym c.is_binary.ensures ∙ c.if-not-is_binary.false)
+    rw (row11 (goal.at.returns c).Else-not-is_headed, row12 (goal.at.returns c).Else-not-is_placed, row13 (goal.at.returns c).Else-not-has_lengths, sym c.is_binary.ensures ∙ c.if-not-is_binary.false)
 
 pub is_binary-requires : goal.is_binary-requires
 is_binary-requires c =
-    let k = c in
-    record { few = omega arith; long = long (goal.at.is_binary-requires k).Else-not-is_headed; lies = row12 (goal.at.is_binary-requires k).Else-not-is_placed; lens = row13 (goal.at.is_binary-requires c).Else-not-has_lengths }
+    record { few = omega arith; long = long (goal.at.is_binary-requires c).Else-not-is_headed; lies = row12 (goal.at.is_binary-requires c).Else-not-is_placed; lens = row13 (goal.at.is_binary-requires c).Else-not-has_lengths }
 
 pub is_placed-requires : goal.is_placed-requires
 is_placed-requires c =

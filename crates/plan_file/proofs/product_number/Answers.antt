@@ -1,5 +1,4 @@
 -- `plan_file::product_number` meets its contract. Assumes nothing.
-use borrow.Author.Rules.{rules}
 use native.Mathlib.Omega.{arith}
 use Rattle.plan_file.proofs.product_number.Goals as goal
 

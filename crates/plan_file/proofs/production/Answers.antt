@@ -1,5 +1,4 @@
 -- `plan_file::production` meets its contract. Assumes nothing.
-use borrow.Author.Rules.{rules}
 use native.Mathlib.Omega.{arith}
 use mathlib.Core.Path.{refl}
 use Rattle.sections.proofs.Rows.{width4}

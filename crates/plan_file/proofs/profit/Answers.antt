@@ -1,5 +1,4 @@
 -- `plan_file::profit` meets its contract. Assumes nothing.
-use borrow.Author.Rules.{rules}
 use native.Mathlib.Omega.{arith}
 use mathlib.Core.Path.{refl, ap, ◌∙◌}
 use mir.Syntax.{w64}
@@ -16,9 +15,8 @@ use Rattle.plan_file.proofs.profit.Goals as goal
 pub returns : goal.returns
 unfolding plan_of
 returns c =
-    let s = c in
     ap (λ (z : ℤ). to_z w64 (of_z w64 z)) (c.signed.ensures ∙ ap signed_of c.cell_in.ensures)
-    ∙ to_z-of_z w64 _ (plan_fits _ _ (λ i. (c.shared_slice_known-1.given i).fits) s.requires).profit
+    ∙ to_z-of_z w64 _ (plan_fits _ _ (λ i. (c.shared_slice_known-1.given i).fits) c.requires).profit
 
 pub cell_in-requires : goal.cell_in-requires
 cell_in-requires c =

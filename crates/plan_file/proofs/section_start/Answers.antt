@@ -2,7 +2,7 @@
 use borrow.Author.Rules.{rules}
 use native.Mathlib.Omega.{arith}
 use mathlib.Core.Path.{◌≡◌, ap, ◌∙◌}
-use Prim.Native.Nat.{ℕ, ◌+◌, ◌-◌, ◌^◌, ◌≤◌, ◌<◌}
+use Prim.Native.Nat.{ℕ, ◌+◌, ◌^◌, ◌≤◌, ◌<◌}
 use lib.ListN.{length}
 use Rattle.contents.specs.File.{start, Listable}
 use Rattle.contents.proofs.Entries.{start_zero, start_next, start_below}
@@ -26,18 +26,16 @@ loop-i-init c = (search rules, omega (arith, start_zero c.body_lengths-lengths.r
 
 pub overflow_add-at : goal.overflow_add-at
 overflow_add-at c =
-    let b = c in
-    omega (arith, start_next b.body_lengths-lengths.result b.loop-i.i, small (goal.at.overflow_add-at b).After-body_lengths-lengths (b.loop-i.i + 1) (omega (arith, b.requires)))
+    omega (arith, start_next c.body_lengths-lengths.result c.loop-i.i, small (goal.at.overflow_add-at c).After-body_lengths-lengths (c.loop-i.i + 1) (omega (arith, c.requires)))
 
 pub loop-i-preserved : goal.loop-i-preserved
-loop-i-preserved c = let b = c in (search rules, omega (arith, b.loop-i.invariant.1, start_next b.body_lengths-lengths.result b.loop-i.i))
+loop-i-preserved c = (search rules, omega (arith, c.loop-i.invariant.1, start_next c.body_lengths-lengths.result c.loop-i.i))
 
 pub returns : goal.returns
 returns c =
-    let b = c in
-    let e : b.loop-i.i ≡ b.args.place = omega arith in
-    let at = b.loop-i.invariant.1 in
-    (at ∙ (λ u. start (b.body_lengths-lengths.ensures u) (e u)), rw at (small (goal.at.returns b).After-body_lengths-lengths b.loop-i.i (omega (arith, b.requires))))
+    let e : c.loop-i.i ≡ c.args.place = omega arith in
+    let at = c.loop-i.invariant.1 in
+    (at ∙ (λ u. start (c.body_lengths-lengths.ensures u) (e u)), rw at (small (goal.at.returns c).After-body_lengths-lengths c.loop-i.i (omega (arith, c.requires))))
 
 pub bounds-lengths-i : goal.bounds-lengths-i
 bounds-lengths-i c =

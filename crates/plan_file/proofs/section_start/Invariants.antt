@@ -1,12 +1,7 @@
 -- `plan_file::section_start` meets its contract: the loop has passed the bodies below `i`. Assumes nothing.
-use borrow.Author.Rules.{rules}
-use native.Mathlib.Omega.{arith}
-use mathlib.Core.Path.{◌≡◌, ap, ◌∙◌}
-use Prim.Native.Nat.{ℕ, ◌+◌, ◌-◌, ◌^◌, ◌≤◌, ◌<◌}
-use lib.ListN.{length}
-use Rattle.contents.specs.File.{start, Listable}
-use Rattle.contents.proofs.Entries.{start_zero, start_next, start_below}
-use Rattle.plan_file.proofs.Lengths.{listable}
+use mathlib.Core.Path.{◌≡◌}
+use Prim.Native.Nat.{◌-◌, ◌≤◌}
+use Rattle.contents.specs.File.{start}
 use Rattle.plan_file.proofs.section_start.Given as goal
 
 abbrev pub invariant-loop-i : goal.invariant-loop-i

@@ -11,4 +11,4 @@ returns c = c.customer_sum.ensures
 
 pub customer_sum-requires : goal.customer_sum-requires
 customer_sum-requires c =
-    let s = c in (pairs_held s.args.f s.args.s.now s.requires.0 8 (omega arith) refl, s.requires.2, s.requires.1)
+    (pairs_held c.args.f c.args.s.now c.requires.0 8 (omega arith) refl, c.requires.2, c.requires.1)

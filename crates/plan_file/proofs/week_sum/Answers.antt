@@ -3,10 +3,6 @@ use borrow.Author.Rules.{rules}
 use native.Mathlib.Omega.{arith}
 use native.Mathlib.Numerals.{add-one}
 use mathlib.Core.Path.{◌≡◌, refl}
-use Prim.Native.Nat.{◌*◌, ◌-◌, ◌≤◌}
-use Rattle.mathematics.specs.Below.{sum_below}
-use Rattle.plan_file.specs.Plan.{plan_of}
-use Rattle.plan_file.specs.Tables.{product_table_of}
 use Rattle.plan_file.proofs.week_sum.Goals as goal
 
 pub loop-i-preserved : goal.loop-i-preserved

@@ -1,8 +1,5 @@
 -- `plan_file::week_sum` meets its contract: the loop has summed the numbers below `i`. Assumes nothing.
-use borrow.Author.Rules.{rules}
-use native.Mathlib.Omega.{arith}
-use native.Mathlib.Numerals.{add-one}
-use mathlib.Core.Path.{◌≡◌, refl}
+use mathlib.Core.Path.{◌≡◌}
 use Prim.Native.Nat.{◌*◌, ◌-◌, ◌≤◌}
 use Rattle.mathematics.specs.Below.{sum_below}
 use Rattle.plan_file.specs.Plan.{plan_of}

@@ -1,5 +1,4 @@
 -- `plan_file::write_contents` meets its contract. Assumes nothing.
-use borrow.Author.Rules.{rules}
 use native.Mathlib.Omega.{arith}
 use mathlib.Core.Path.{ap, ◌∙◌}
 use mathlib.Core.List.{List}
@@ -12,12 +11,9 @@ use Rattle.plan_file.proofs.write_contents.Goals as goal
 
 pub write_contents-requires : goal.write_contents-requires
 write_contents-requires c =
-    let b = c in
-    let s = b in
-    (rw b.body_lengths-lengths.ensures (listable s.args.f (omega arith, omega arith, omega arith)), omega (arith, ap length b.body_lengths-lengths.ensures, s.requires))
+    (rw c.body_lengths-lengths.ensures (listable c.args.f (omega arith, omega arith, omega arith)), omega (arith, ap length c.body_lengths-lengths.ensures, c.requires))
 
 pub returns : goal.returns
 returns c =
-    let b = c in
-    let out = b.args.out.now in
-    c.write_contents.ensures ∙ ap (λ (l : List ℕ). store out 0 (contents_bytes 2 21 l)) b.body_lengths-lengths.ensures
+    let out = c.args.out.now in
+    c.write_contents.ensures ∙ ap (λ (l : List ℕ). store out 0 (contents_bytes 2 21 l)) c.body_lengths-lengths.ensures

@@ -1,5 +1,4 @@
 -- `plan_file::write_sales` meets its contract. Assumes nothing.
-use borrow.Author.Rules.{rules}
 use mathlib.Core.Path.{◌∙◌}
 use native.Mathlib.Omega.{arith}
 use Rattle.sections.proofs.Rows.{laid_holds, width4}
@@ -8,11 +7,9 @@ use Rattle.plan_file.proofs.write_sales.Goals as goal
 
 pub copy_section-requires : goal.copy_section-requires
 copy_section-requires c =
-    let s = c in
-    rw c.volume.ensures.0 (laid_holds (plan_good s.args.f s.args.s.now s.requires.0).laid 8 (omega arith) 4 _ width4 (omega arith), s.requires.1)
+    rw c.volume.ensures.0 (laid_holds (plan_good c.args.f c.args.s.now c.requires.0).laid 8 (omega arith) 4 _ width4 (omega arith), c.requires.1)
 
 pub returns : goal.returns
 returns c =
-    let sized = c in
-    let a = sized.args in
-    c.copy_section.ensures ∙ rw (sized.volume.ensures.0, sales_cube a.f a.s.now)
+    let a = c.args in
+    c.copy_section.ensures ∙ rw (c.volume.ensures.0, sales_cube a.f a.s.now)

@@ -3,12 +3,9 @@ use borrow.Author.Rules.{rules}
 use native.Mathlib.Omega.{arith}
 use native.Mathlib.Numerals.{add-one}
 use mathlib.Core.Path.{◌≡◌, refl}
-use Prim.Native.Nat.{◌+◌, ◌*◌, ◌-◌, ◌≤◌}
+use Prim.Native.Nat.{◌+◌, ◌*◌, ◌≤◌}
 use lib.ListN.{length}
-use Rattle.mathematics.specs.Below.{all_below, within}
 use Rattle.numbers.proofs.Number.{room}
-use Rattle.sections.specs.Limits.{most_rate}
-use Rattle.plant_file.specs.Rates.{listed_rate}
 use Rattle.plant_file.proofs.are_rates_in_range.Goals as goal
 use Rattle.plant_file.proofs.are_rates_in_range.Goals.{In-loop-i}
 

@@ -1,12 +1,7 @@
 -- `plant_file::are_rates_in_range` meets its contract: the loop has tried the rates below `i`. Assumes nothing.
-use borrow.Author.Rules.{rules}
-use native.Mathlib.Omega.{arith}
-use native.Mathlib.Numerals.{add-one}
-use mathlib.Core.Path.{◌≡◌, refl}
-use Prim.Native.Nat.{◌+◌, ◌*◌, ◌-◌, ◌≤◌}
-use lib.ListN.{length}
+use mathlib.Core.Path.{◌≡◌}
+use Prim.Native.Nat.{◌-◌, ◌≤◌}
 use Rattle.mathematics.specs.Below.{all_below, within}
-use Rattle.numbers.proofs.Number.{room}
 use Rattle.sections.specs.Limits.{most_rate}
 use Rattle.plant_file.specs.Rates.{listed_rate}
 use Rattle.plant_file.proofs.are_rates_in_range.Given as goal

@@ -1,9 +1,8 @@
 -- `plant_file::copy_body` meets its contract. Assumes nothing.
-use borrow.Author.Rules.{rules}
 use native.Mathlib.Omega.{arith}
 use native.Mathlib.Nat.{one-mul}
 use mathlib.Core.Path.{◌≡◌, sym, ap, ◌∙◌}
-use lib.ListN.{length, get_or}
+use lib.ListN.{get_or}
 use Rattle.numbers.specs.Number.{Bytes, store}
 use Rattle.contents.specs.Contents.{extent}
 use Rattle.contents.specs.declared.Entry.{Entry}
@@ -34,20 +33,17 @@ module _ (c : After-entry_in-e) where
 
 pub entry_in-e-requires : goal.entry_in-e-requires
 entry_in-e-requires c =
-    let s = c in
-    let few = (kind_sections s.args.f.kind).1 in
-    let z = good_laid s.args.s.now s.args.f s.requires.0 in
-    (omega (arith, s.requires.1, few), omega (arith, z.long, s.requires.1, kind_lengths s.args.f))
+    let few = (kind_sections c.args.f.kind).1 in
+    let z = good_laid c.args.s.now c.args.f c.requires.0 in
+    (omega (arith, c.requires.1, few), omega (arith, z.long, c.requires.1, kind_lengths c.args.f))
 
 pub returns : goal.returns
 returns c =
-    let d = c in
-    let s = c in
-    let bytes : Bytes s.args.s.now = λ i. (d.shared_slice_known-1.given i).fits in
+    let bytes : Bytes c.args.s.now = λ i. (c.shared_slice_known-1.given i).fits in
     c.copy_section.ensures
-    ∙ ap (store s.args.out.now 0)
-    (section_is 1 _ s.args.s.now s.args.place bytes (held (goal.at.returns d).After-entry_in-e) (sym (extent_is (goal.at.returns d).After-entry_in-e) ∙ sym (one-mul _))
-    ∙ sym (body_is s.args.f s.args.s.now bytes s.requires.0 s.args.place s.requires.1))
+    ∙ ap (store c.args.out.now 0)
+    (section_is 1 _ c.args.s.now c.args.place bytes (held (goal.at.returns c).After-entry_in-e) (sym (extent_is (goal.at.returns c).After-entry_in-e) ∙ sym (one-mul _))
+    ∙ sym (body_is c.args.f c.args.s.now bytes c.requires.0 c.args.place c.requires.1))
 
 pub copy_section-requires : goal.copy_section-requires
 copy_section-requires c =

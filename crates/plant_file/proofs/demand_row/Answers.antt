@@ -6,8 +6,7 @@ use Rattle.plant_file.proofs.demand_row.Goals as goal
 
 pub pair_row-requires : goal.pair_row-requires
 pair_row-requires c =
-    let s = c in
-    (laid_holds (good_laid s.args.s.now s.args.f s.requires.0) 4 (omega arith) 4 _ width4 (omega arith), s.requires.1)
+    (laid_holds (good_laid c.args.s.now c.args.f c.requires.0) 4 (omega arith) 4 _ width4 (omega arith), c.requires.1)
 
 pub returns : goal.returns
 returns c =

@@ -1,5 +1,4 @@
 -- `plant_file::has_lengths` meets its contract. Assumes nothing.
-use borrow.Author.Rules.{rules}
 use native.Mathlib.Omega.{arith}
 use mathlib.Core.Path.{◌≡◌, ap, ◌∙◌}
 use lib.ListN.{take}
@@ -16,9 +15,8 @@ first c = first_lengths c.args.f _ _ c.plant_kind-k.ensures c.body_lengths-lengt
 
 pub is_sized-requires : goal.is_sized-requires
 is_sized-requires c =
-    let s = c in
-    let n = kind_lengths s.args.f in
-    rw (first (goal.at.is_sized-requires c).After-body_lengths-lengths) (omega (arith, n, s.requires), omega (arith, n, (kind_sections s.args.f.kind).1))
+    let n = kind_lengths c.args.f in
+    rw (first (goal.at.is_sized-requires c).After-body_lengths-lengths) (omega (arith, n, c.requires), omega (arith, n, (kind_sections c.args.f.kind).1))
 
 pub returns : goal.returns
 returns c = c.is_sized.ensures ∙ ap (sized c.args.s.now) (first (goal.at.returns c).After-body_lengths-lengths)
@@ -29,4 +27,4 @@ slice_bounds-lengths-end c =
 
 pub slice_bounds-is_sized-end : goal.slice_bounds-is_sized-end
 slice_bounds-is_sized-end c =
-    let d = c in first_count d.args.f _ _ d.plant_kind-k.ensures d.body_lengths-lengths.ensures
+    first_count c.args.f _ _ c.plant_kind-k.ensures c.body_lengths-lengths.ensures

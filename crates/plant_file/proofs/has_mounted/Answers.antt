@@ -1,5 +1,4 @@
 -- `plant_file::has_mounted` meets its contract. Assumes nothing.
-use borrow.Author.Rules.{rules}
 use Rattle.plant_file.specs.Kinds.{has_mounted}
 use Rattle.plant_file.proofs.has_mounted.Goals as goal
 

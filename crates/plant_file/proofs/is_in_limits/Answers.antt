@@ -1,5 +1,4 @@
 -- `plant_file::is_in_limits` meets its contract. Assumes nothing.
-use borrow.Author.Rules.{rules}
 use Rattle.plant_file.specs.Form.{in_limits}
 use Rattle.plant_file.proofs.is_in_limits.Goals as goal
 

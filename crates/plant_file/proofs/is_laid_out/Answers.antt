@@ -1,5 +1,4 @@
 -- `plant_file::is_laid_out` meets its contract. Assumes nothing.
-use borrow.Author.Rules.{rules}
 use native.Mathlib.Omega.{arith}
 use mathlib.Core.Path.{ap}
 use lib.ListN.{get_or}
@@ -11,13 +10,11 @@ use Rattle.plant_file.proofs.is_laid_out.Goals as goal
 
 pub entry_in-e-requires : goal.entry_in-e-requires
 entry_in-e-requires c =
-    let s = c in
-    (omega arith, omega (arith, s.requires, (kind_sections (get_or s.args.s.now 0 0)).0))
+    (omega arith, omega (arith, c.requires, (kind_sections (get_or c.args.s.now 0 0)).0))
 
 pub is_placed-requires : goal.is_placed-requires
 is_placed-requires c =
-    let s = c in
-    rw c.kind_of-k.ensures (s.requires, omega (arith, (kind_sections (get_or s.args.s.now 0 0)).1))
+    rw c.kind_of-k.ensures (c.requires, omega (arith, (kind_sections (get_or c.args.s.now 0 0)).1))
 
 pub returns : goal.returns
 unfolding laid_out

@@ -1,6 +1,5 @@
 -- `plant_file::is_mounted_in_range` meets its contract. Assumes nothing.
 use mathlib.Core.Path.{refl, ap, ◌∙◌}
-use borrow.Author.Rules.{rules}
 use borrow.Author.Tests.{le-leb, lt-leb}
 use native.Mathlib.Omega.{arith}
 use Rattle.plant_file.specs.Plant.{mounted_in, shut_before_in}

@@ -1,6 +1,5 @@
 -- `plant_file::is_mounted_known` meets its contract. Assumes nothing.
 use mathlib.Core.Path.{refl}
-use borrow.Author.Rules.{rules}
 use borrow.Author.Tests.{lt-ltb, le-ltb}
 use native.Mathlib.Omega.{arith}
 use Rattle.plant_file.specs.Form.{mounted_known}

@@ -1,6 +1,5 @@
 -- `plant_file::is_plant_headed` meets its contract. Assumes nothing.
 use mathlib.Core.Path.{ap, ◌∙◌}
-use borrow.Author.Rules.{rules}
 use native.Mathlib.Omega.{arith}
 use lib.ListN.{get_or}
 use Rattle.contents.specs.Contents.{headed}

@@ -1,16 +1,11 @@
 -- `plant_file::is_storage_in_range` meets its contract: the loop has tried the products below `i`. Assumes nothing.
-use borrow.Author.Rules.{rules}
-use native.Mathlib.Omega.{arith}
-use native.Mathlib.Numerals.{add-one}
 use mathlib.Core.Path.{◌≡◌}
 use mathlib.Core.Bool.{◌&&◌}
 use Prim.Native.Nat.{◌≤◌, ◌-◌, ◌+◌, ◌*◌}
 use lib.Dec.{leb}
 use Rattle.mathematics.specs.Below.{all_below}
 use Rattle.contents.specs.Contents.{cell}
-use Rattle.sections.proofs.Rows.{holds_inside}
 use Rattle.sections.specs.Limits.{most_storage}
-use Rattle.plant_file.specs.Form.{storage_in_range}
 use Rattle.plant_file.proofs.is_storage_in_range.Given as goal
 
 abbrev pub invariant-loop-i : goal.invariant-loop-i

@@ -1,5 +1,4 @@
 -- `plant_file::is_time_in_range` meets its contract. Assumes nothing.
-use borrow.Author.Rules.{rules}
 use Rattle.plant_file.specs.Form.{time_in_range}
 use Rattle.plant_file.proofs.is_time_in_range.Goals as goal
 

@@ -1,6 +1,5 @@
 -- `plant_file::kind_of` meets its contract. Assumes nothing.
 use mathlib.Core.Path.{sym, ap, ◌∙◌}
-use borrow.Author.Rules.{rules}
 use native.Mathlib.Omega.{arith}
 use lib.ListN.{get_or-eq_default}
 use Rattle.plant_file.specs.Kinds.{plant_kind}

@@ -1,5 +1,4 @@
 -- `plant_file::listed_rate` meets its contract. Assumes nothing.
-use borrow.Author.Rules.{rules}
 use Rattle.plant_file.specs.Rates.{listed_rate}
 use Rattle.plant_file.proofs.listed_rate.Goals as goal
 

@@ -1,5 +1,4 @@
 -- `plant_file::pair_demand` meets its contract. Assumes nothing.
-use borrow.Author.Rules.{rules}
 use Rattle.plant_file.proofs.pair_demand.Goals as goal
 
 pub returns : goal.returns

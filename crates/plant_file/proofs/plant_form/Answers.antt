@@ -1,6 +1,4 @@
 -- `plant_file::plant_form` meets its contract: at each place it is known which rows the file has passed. Assumes nothing.
-use borrow.Author.Rules.{rules}
-use borrow.Author.Tests.{not-true, not-false}
 use mathlib.Core.Path.{◌≡◌, sym, ap, ◌∙◌}
 use mathlib.Core.Bool.{true}
 use lib.ListN.{get_or}
@@ -42,17 +40,15 @@ returns-then-not-is_laid_out c = rw (row1 (goal.at.returns-then-not-is_laid_out 
 pub returns-then-not-is_in_limits : goal.returns-then-not-is_in_limits
 unfolding plant_form
 returns-then-not-is_in_limits c =
-    let k = c in
-    rw (row1 (goal.at.returns-then-not-is_in_limits k).Else-not-is_plant_headed, row2 (goal.at.returns-then-not-is_in_limits k).Else-not-is_laid_out, ← k.shape_of-f.ensures, sym c.is_in_limits.ensures ∙ c.if-not-is_in_limits.true)
+    rw (row1 (goal.at.returns-then-not-is_in_limits c).Else-not-is_plant_headed, row2 (goal.at.returns-then-not-is_in_limits c).Else-not-is_laid_out, ← c.shape_of-f.ensures, sym c.is_in_limits.ensures ∙ c.if-not-is_in_limits.true)
 
 pub returns-then-not-has_lengths : goal.returns-then-not-has_lengths
 unfolding plant_form
 returns-then-not-has_lengths c =
-    let k = c in
     rw (
-      row1 (goal.at.returns-then-not-has_lengths k).Else-not-is_plant_headed,
-      row2 (goal.at.returns-then-not-has_lengths k).Else-not-is_laid_out,
-      ← k.shape_of-f.ensures,
+      row1 (goal.at.returns-then-not-has_lengths c).Else-not-is_plant_headed,
+      row2 (goal.at.returns-then-not-has_lengths c).Else-not-is_laid_out,
+      ← c.shape_of-f.ensures,
       row3 (goal.at.returns-then-not-has_lengths c).Else-not-is_in_limits,
       sym c.has_lengths.ensures ∙ c.if-not-has_lengths.true,
     )
@@ -80,8 +76,7 @@ returns c = rw (only_row5 (goal.at.returns c).Else-not-has_lengths, sym c.is_in_
 -- rows 1, 2 and 4 passed
 pub is_in_range-requires : goal.is_in_range-requires
 is_in_range-requires c =
-    let k = c in
-    plant_laid _ _ (kind_is (goal.at.is_in_range-requires k).After-shape_of-f) (row1 (goal.at.is_in_range-requires k).Else-not-is_plant_headed) (row2 (goal.at.is_in_range-requires k).Else-not-is_laid_out) (row4 (goal.at.is_in_range-requires c).Else-not-has_lengths)
+    plant_laid _ _ (kind_is (goal.at.is_in_range-requires c).After-shape_of-f) (row1 (goal.at.is_in_range-requires c).Else-not-is_plant_headed) (row2 (goal.at.is_in_range-requires c).Else-not-is_laid_out) (row4 (goal.at.is_in_range-requires c).Else-not-has_lengths)
 
 pub is_laid_out-requires : goal.is_laid_out-requires
 is_laid_out-requires c =

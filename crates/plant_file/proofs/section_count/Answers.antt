@@ -1,5 +1,4 @@
 -- `plant_file::section_count` meets its contract. Assumes nothing.
-use borrow.Author.Rules.{rules}
 use mathlib.Core.Path.{ap}
 use Rattle.plant_file.specs.declared.PlantKind.{PlantKind}
 use Rattle.plant_file.proofs.PlantKinds.{kind_sections}

@@ -3,7 +3,7 @@ use borrow.Author.Rules.{rules}
 use native.Mathlib.Omega.{arith}
 use native.Mathlib.Numerals.{add-one}
 use mathlib.Core.Path.{◌≡◌, ap, ◌∙◌, sym}
-use Prim.Native.Nat.{ℕ, ◌+◌, ◌*◌, ◌-◌, ◌^◌, ◌≤◌, ◌<◌}
+use Prim.Native.Nat.{ℕ, ◌+◌, ◌*◌, ◌^◌, ◌≤◌, ◌<◌}
 use lib.ListN.{length, get_or}
 use Rattle.mathematics.specs.Below.{sum_below}
 use Rattle.contents.specs.File.{start}
@@ -44,7 +44,7 @@ loop-i-init c = (search rules, omega arith)
 -- one length more
 module _ (c : In-loop-i) where
   known : c.loop-i.i < 12
-  known = let d = c in omega (arith, c.loop-i-test.true, (s d.before.before).requires, (kind_sections (s d.before.before).args.f.kind).1)
+  known = omega (arith, c.loop-i-test.true, (s c.before.before).requires, (kind_sections (s c.before.before).args.f.kind).1)
 
   -- where the next body begins
   next : c.loop-i.at + get_or c.body_lengths-lengths.result c.loop-i.i 0
@@ -63,10 +63,9 @@ loop-i-preserved c = (search rules, next (goal.at.loop-i-preserved c).In-loop-i)
 
 pub returns : goal.returns
 returns c =
-    let d = c in
-    let e : c.loop-i.i ≡ (s (goal.at.returns d).After-section_count).args.place = omega arith in
-    let at = c.loop-i.invariant.1 ∙ at_is (goal.at.returns d).After-section_count c.loop-i.i (omega (arith, (s (goal.at.returns d).After-section_count).requires)) in
-    (at ∙ ap (start (plant_lengths (s (goal.at.returns d).After-section_count).args.f)) e, rw at (small (goal.at.returns d).After-section_count c.loop-i.i (omega (arith, (s (goal.at.returns d).After-section_count).requires))))
+    let e : c.loop-i.i ≡ (s (goal.at.returns c).After-section_count).args.place = omega arith in
+    let at = c.loop-i.invariant.1 ∙ at_is (goal.at.returns c).After-section_count c.loop-i.i (omega (arith, (s (goal.at.returns c).After-section_count).requires)) in
+    (at ∙ ap (start (plant_lengths (s (goal.at.returns c).After-section_count).args.f)) e, rw at (small (goal.at.returns c).After-section_count c.loop-i.i (omega (arith, (s (goal.at.returns c).After-section_count).requires))))
 
 pub bounds-lengths-i : goal.bounds-lengths-i
 bounds-lengths-i c =

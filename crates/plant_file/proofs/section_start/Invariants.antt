@@ -1,17 +1,8 @@
 -- `plant_file::section_start` meets its contract: the loop has passed the bodies below `i`. Assumes nothing.
-use borrow.Author.Rules.{rules}
-use native.Mathlib.Omega.{arith}
-use native.Mathlib.Numerals.{add-one}
-use mathlib.Core.Path.{◌≡◌, ap, ◌∙◌, sym}
-use Prim.Native.Nat.{ℕ, ◌+◌, ◌*◌, ◌-◌, ◌^◌, ◌≤◌, ◌<◌}
-use lib.ListN.{length, get_or}
+use mathlib.Core.Path.{◌≡◌}
+use Prim.Native.Nat.{◌+◌, ◌-◌, ◌≤◌}
+use lib.ListN.{get_or}
 use Rattle.mathematics.specs.Below.{sum_below}
-use Rattle.contents.specs.File.{start}
-use Rattle.contents.proofs.Entries.{start_below}
-use Rattle.plant_file.specs.Kinds.{plant_kind}
-use Rattle.plant_file.specs.Form.{plant_lengths}
-use Rattle.plant_file.proofs.Lengths.{listable, start_all}
-use Rattle.plant_file.proofs.PlantKinds.{kind_sections, kind_lengths}
 use Rattle.plant_file.proofs.section_start.Given as goal
 
 abbrev pub invariant-loop-i : goal.invariant-loop-i

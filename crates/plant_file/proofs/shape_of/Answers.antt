@@ -1,5 +1,4 @@
 -- `plant_file::shape_of` meets its contract. Assumes nothing.
-use borrow.Author.Rules.{rules}
 use native.Mathlib.Omega.{arith}
 use native.Mathlib.Nat.{add-zero}
 use mathlib.Core.Path.{◌≡◌, sym, ap, ◌∙◌}

@@ -1,5 +1,4 @@
 -- `plant_file::write_contents` meets its contract. Assumes nothing.
-use borrow.Author.Rules.{rules}
 use native.Mathlib.Omega.{arith}
 use mathlib.Core.Path.{◌≡◌, ◌∙◌}
 use lib.ListN.{take}
@@ -18,22 +17,19 @@ first c = first_lengths c.args.f _ _ c.plant_kind-k.ensures c.body_lengths-lengt
 
 pub write_contents-requires : goal.write_contents-requires
 write_contents-requires c =
-    let s = c in
     rw (first (goal.at.write_contents-requires c).After-body_lengths-lengths)
-    (listable s.args.f (omega arith, omega arith, omega arith), omega (arith, kind_lengths s.args.f, s.requires))
+    (listable c.args.f (omega arith, omega arith, omega arith), omega (arith, kind_lengths c.args.f, c.requires))
 
 pub returns : goal.returns
 returns c =
-    let d = c in
-    let out = d.args.out.now in
+    let out = c.args.out.now in
     c.write_contents.ensures
-    ∙ (λ u. store out 0 (contents_bytes (d.plant_kind-k.ensures u).number 1 (first (goal.at.returns d).After-body_lengths-lengths u)))
+    ∙ (λ u. store out 0 (contents_bytes (c.plant_kind-k.ensures u).number 1 (first (goal.at.returns c).After-body_lengths-lengths u)))
 
 pub slice_bounds-lengths-end : goal.slice_bounds-lengths-end
 slice_bounds-lengths-end c =
-    let d = c in first_few d.args.f _ _ d.plant_kind-k.ensures d.body_lengths-lengths.ensures
+    first_few c.args.f _ _ c.plant_kind-k.ensures c.body_lengths-lengths.ensures
 
 pub slice_bounds-write_contents-end : goal.slice_bounds-write_contents-end
 slice_bounds-write_contents-end c =
-    let d = c in
-    first_count d.args.f _ _ d.plant_kind-k.ensures d.body_lengths-lengths.ensures
+    first_count c.args.f _ _ c.plant_kind-k.ensures c.body_lengths-lengths.ensures

@@ -2,9 +2,9 @@
 use borrow.Author.Rules.{rules}
 use native.Mathlib.Omega.{arith}
 use mathlib.Core.Path.{◌≡◌, refl, ◌∙◌}
-use Prim.Native.Nat.{◌+◌, ◌*◌, ◌-◌, ◌≤◌}
+use Prim.Native.Nat.{◌+◌, ◌*◌, ◌≤◌}
 use lib.ListN.{length}
-use Rattle.numbers.specs.Number.{digits, encode, store}
+use Rattle.numbers.specs.Number.{digits, store}
 use Rattle.numbers.proofs.Number.{room, store_more}
 use Rattle.plant_file.specs.Rates.{listed_rate}
 use Rattle.plant_file.proofs.write_rates.Goals as goal
@@ -18,13 +18,12 @@ room_at c =
 
 pub loop-i-preserved : goal.loop-i-preserved
 loop-i-preserved c =
-    let b = c in
-    let a = b.args in (
+    let a = c.args in (
       search rules,
       search rules,
       c.write.ensures
-          ∙ ((λ u. store (b.loop-i.invariant.2 u) (4 * b.loop-i.i) (digits 4 (c.listed_rate.ensures u)))
-          ∙ store_more 4 b.loop-i.i (listed_rate a.rates.now) a.out.now),
+          ∙ ((λ u. store (c.loop-i.invariant.2 u) (4 * c.loop-i.i) (digits 4 (c.listed_rate.ensures u)))
+          ∙ store_more 4 c.loop-i.i (listed_rate a.rates.now) a.out.now),
     )
 
 pub returns : goal.returns

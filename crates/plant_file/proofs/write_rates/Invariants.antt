@@ -1,11 +1,8 @@
 -- `plant_file::write_rates` meets its contract: the loop has stored the rates below `i`. Assumes nothing.
-use borrow.Author.Rules.{rules}
-use native.Mathlib.Omega.{arith}
-use mathlib.Core.Path.{◌≡◌, refl, ◌∙◌}
-use Prim.Native.Nat.{◌+◌, ◌*◌, ◌-◌, ◌≤◌}
+use mathlib.Core.Path.{◌≡◌}
+use Prim.Native.Nat.{◌-◌, ◌≤◌}
 use lib.ListN.{length}
-use Rattle.numbers.specs.Number.{digits, encode, store}
-use Rattle.numbers.proofs.Number.{room, store_more}
+use Rattle.numbers.specs.Number.{encode, store}
 use Rattle.plant_file.specs.Rates.{listed_rate}
 use Rattle.plant_file.proofs.write_rates.Given as goal
 

@@ -1,9 +1,7 @@
 -- `report::digit_count` meets its contract: the digits counted, and those of what is left. Assumes nothing.
 use native.Mathlib.Omega.{arith}
-use mathlib.Core.Path.{◌≡◌, ap}
-use Prim.Native.Nat.{◌+◌, ◌≤◌}
+use mathlib.Core.Path.{ap}
 use lib.ListN.{length}
-use Rattle.report.specs.Text.{decimal}
 use Rattle.report.proofs.Decimal.{decimal_small, large_length, decimal_most}
 use Rattle.report.proofs.digit_count.Goals as goal
 

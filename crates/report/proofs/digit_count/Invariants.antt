@@ -1,10 +1,8 @@
 -- `report::digit_count` meets its contract: the digits counted, and those of what is left. Assumes nothing.
-use native.Mathlib.Omega.{arith}
-use mathlib.Core.Path.{◌≡◌, ap}
+use mathlib.Core.Path.{◌≡◌}
 use Prim.Native.Nat.{◌+◌, ◌≤◌}
 use lib.ListN.{length}
 use Rattle.report.specs.Text.{decimal}
-use Rattle.report.proofs.Decimal.{decimal_small, large_length, decimal_most}
 use Rattle.report.proofs.digit_count.Given as goal
 
 abbrev pub invariant-loop-left : goal.invariant-loop-left

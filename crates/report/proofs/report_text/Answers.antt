@@ -1,9 +1,8 @@
 -- `report::report_text` meets its contract. Assumes nothing.
-use borrow.Author.Rules.{rules}
 use native.Mathlib.Omega.{arith}
-use mathlib.Core.Path.{◌≡◌, sym, ◌∙◌}
+use mathlib.Core.Path.{◌≡◌, sym}
 use mathlib.Core.List.{append-nil}
-use Rattle.passed_plan.specs.declared.Judgement.TheVariants.{Passed, Refused}
+use Rattle.passed_plan.specs.declared.Judgement.TheVariants.{Passed}
 use Rattle.passed_plan.specs.Judgement.{judgement_of}
 use Rattle.passed_plan.proofs.PassedPlan.{judged_passing}
 use Rattle.calls.specs.declared.Check.TheVariants as check
@@ -30,15 +29,13 @@ facts c =
 
 pub write_weeks-requires : goal.write_weeks-requires
 write_weeks-requires c =
-    let d = c in
-    let profit = d.in-Passed.p.profit in
-    ((facts (goal.at.write_weeks-requires d).After-write_first-at).ready, omega (arith, (facts (goal.at.write_weeks-requires d).After-write_first-at).most, d.write_first-at.ensures.end, first_most (check.Passed profit)))
+    let profit = c.in-Passed.p.profit in
+    ((facts (goal.at.write_weeks-requires c).After-write_first-at).ready, omega (arith, (facts (goal.at.write_weeks-requires c).After-write_first-at).most, c.write_first-at.ensures.end, first_most (check.Passed profit)))
 
 pub returns-in-Refused : goal.returns-in-Refused
 unfolding report_text check_of
 returns-in-Refused c =
-    let d = c in
-    let n = d.in-Refused.n in
+    let n = c.in-Refused.n in
     let e = sym c.in-Refused.ensures in
     let first = c.write_first.ensures in
     rw (e, append-nil (first_line (check.Refused n))) (omega (arith, first.end, first_most (check.Refused n)), omega (arith, first.end), first.output)
@@ -46,10 +43,9 @@ returns-in-Refused c =
 pub returns-in-Passed : goal.returns-in-Passed
 unfolding report_text check_of
 returns-in-Passed c =
-    let d = c in
-    let a = d.args in
-    let profit = d.in-Passed.p.profit in
-    let first = d.write_first-at.ensures in
+    let a = c.args in
+    let profit = c.in-Passed.p.profit in
+    let first = c.write_first-at.ensures in
     let both = stored_both {s = a.out.now} (omega arith) first c.write_weeks.ensures in
-    rw (passed (goal.at.returns-in-Passed d).After-write_first-at, ← (facts (goal.at.returns-in-Passed d).After-write_first-at).lines)
-    (omega (arith, c.write_weeks.ensures.end, (facts (goal.at.returns-in-Passed d).After-write_first-at).most, first.end, first_most (check.Passed profit)), omega (arith, both.end), both.output)
+    rw (passed (goal.at.returns-in-Passed c).After-write_first-at, ← (facts (goal.at.returns-in-Passed c).After-write_first-at).lines)
+    (omega (arith, c.write_weeks.ensures.end, (facts (goal.at.returns-in-Passed c).After-write_first-at).most, first.end, first_most (check.Passed profit)), omega (arith, both.end), both.output)

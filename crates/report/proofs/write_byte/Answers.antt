@@ -1,5 +1,4 @@
 -- `report::write_byte` meets its contract. Assumes nothing.
-use borrow.Author.Rules.{rules}
 use native.Mathlib.Omega.{arith}
 use Rattle.report.proofs.StoredText.{stored_byte}
 use Rattle.report.proofs.write_byte.Goals as goal

@@ -3,18 +3,15 @@ use borrow.Author.Rules.{rules}
 use native.Mathlib.Omega.{arith}
 use native.Mathlib.Numerals.{add-one}
 use mathlib.Core.Path.{◌≡◌, refl}
-use Prim.Native.Nat.{◌≤◌, ◌-◌, ◌+◌}
-use lib.ListN.{length, take}
+use lib.ListN.{length}
 use lib.Seq.{take-suc, take-length}
-use Rattle.report.specs.Stored.{Stored}
 use Rattle.report.proofs.StoredText.{stored_none, stored_both}
 use Rattle.report.proofs.write_bytes.Goals as goal
 
 pub loop-i-preserved : goal.loop-i-preserved
 loop-i-preserved c =
-    let d = c in
-    let a = d.args in
-    let b = d.loop-i in (
+    let a = c.args in
+    let b = c.loop-i in (
       search rules,
       omega arith,
       search rules,

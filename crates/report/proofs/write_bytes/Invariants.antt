@@ -1,13 +1,8 @@
 -- `report::write_bytes` meets its contract: the loop has stored the bytes below `i`. Assumes nothing.
-use borrow.Author.Rules.{rules}
-use native.Mathlib.Omega.{arith}
-use native.Mathlib.Numerals.{add-one}
-use mathlib.Core.Path.{◌≡◌, refl}
+use mathlib.Core.Path.{◌≡◌}
 use Prim.Native.Nat.{◌≤◌, ◌-◌, ◌+◌}
 use lib.ListN.{length, take}
-use lib.Seq.{take-suc, take-length}
 use Rattle.report.specs.Stored.{Stored}
-use Rattle.report.proofs.StoredText.{stored_none, stored_both}
 use Rattle.report.proofs.write_bytes.Given as goal
 
 abbrev pub invariant-loop-i : goal.invariant-loop-i

@@ -1,11 +1,9 @@
 -- `report::write_decimal` meets its contract: the digits of what is left, stored, give the whole. Assumes nothing.
 use borrow.Author.Rules.{rules}
 use native.Mathlib.Omega.{arith}
-use mathlib.Core.Path.{◌≡◌, refl, ◌∙◌}
-use Prim.Native.Nat.{◌+◌, ◌≤◌, ◌/◌}
-use lib.ListN.{length, length-set}
-use Rattle.numbers.specs.Number.{store}
-use Rattle.report.specs.Text.{decimal}
+use mathlib.Core.Path.{refl, ◌∙◌}
+use Prim.Native.Nat.{◌/◌}
+use lib.ListN.{length-set}
 use Rattle.report.proofs.Decimal.{decimal_some, large_length}
 use Rattle.report.proofs.StoredText.{digit_back, digit_first}
 use Rattle.report.proofs.write_decimal.Goals as goal

@@ -1,12 +1,8 @@
 -- `report::write_first` meets its contract. Assumes nothing.
-use borrow.Author.Rules.{rules}
 use native.Mathlib.Omega.{arith}
-use Prim.Native.Nat.{◌≤◌}
-use lib.ListN.{length}
 use mir.Syntax.{w64}
 use mir.Val.{of_z, to_z}
 use mir.ValLaws.{to_z-of_z}
-use Rattle.report.specs.Text.{signed_decimal}
 use Rattle.report.proofs.Decimal.{decimal_most}
 use Rattle.report.proofs.StoredText.{stored_both}
 use Rattle.report.proofs.FirstLine.{signed_most, passed_line, refused_line}
@@ -17,26 +13,21 @@ write_signed-q-requires c = omega (arith, c.write_bytes-p.ensures.end, signed_mo
 
 pub write_byte-requires : goal.write_byte-requires
 write_byte-requires c =
-    let d = c in
-    omega (arith, c.write_signed-q.ensures.end, d.write_bytes-p.ensures.end, signed_most (to_z w64 (of_z w64 c.in-Passed.profit.0)))
+    omega (arith, c.write_signed-q.ensures.end, c.write_bytes-p.ensures.end, signed_most (to_z w64 (of_z w64 c.in-Passed.profit.0)))
 
 pub write_field-requires : goal.write_field-requires
 write_field-requires c =
-    let d = c in
-    omega (arith, d.write_bytes-p-in-Refused.ensures.end, decimal_most d.in-Refused.n)
+    omega (arith, c.write_bytes-p-in-Refused.ensures.end, decimal_most c.in-Refused.n)
 
 pub returns-in-Passed : goal.returns-in-Passed
 returns-in-Passed c =
     let w = c.write_signed-q in
-    let d = c in
-    let b = d in
-    let out = b.args.out.now in
-    let signed = rw (to_z-of_z w64 c.in-Passed.profit.0 (record { sfits = d.struct_told-1.given.0.1 })) at w.ensures in
-    let both = stored_both {s = out} (omega arith) b.write_bytes-p.ensures signed in
+    let out = c.args.out.now in
+    let signed = rw (to_z-of_z w64 c.in-Passed.profit.0 (record { sfits = c.struct_told-1.given.0.1 })) at w.ensures in
+    let both = stored_both {s = out} (omega arith) c.write_bytes-p.ensures signed in
     rw (c.in-Passed.is, ← passed_line c.in-Passed.profit) (stored_both (omega arith) both c.write_byte.ensures)
 
 pub returns-in-Refused : goal.returns-in-Refused
 returns-in-Refused c =
-    let d = c in
-    let out = d.args.out.now in
-    rw (c.in-Refused.is, ← refused_line c.in-Refused.n) (stored_both {s = out} (omega arith) d.write_bytes-p-in-Refused.ensures c.write_field.ensures.0)
+    let out = c.args.out.now in
+    rw (c.in-Refused.is, ← refused_line c.in-Refused.n) (stored_both {s = out} (omega arith) c.write_bytes-p-in-Refused.ensures c.write_field.ensures.0)

@@ -1,5 +1,4 @@
 -- `report::write_line` meets its contract. Assumes nothing.
-use borrow.Author.Rules.{rules}
 use native.Mathlib.Omega.{arith}
 use mathlib.Core.Path.{◌≡◌}
 use mathlib.Core.List.{[], ◌∷◌}
@@ -17,25 +16,19 @@ size c = let a = c.args in line_length a.week a.product a.change a.start a.end
 
 pub write_field-d-requires : goal.write_field-d-requires
 write_field-d-requires c =
-    let d = c in
-    omega (arith, size (goal.at.write_field-d-requires d).Start)
+    omega (arith, size (goal.at.write_field-d-requires c).Start)
 
 pub write_field-requires : goal.write_field-requires
 write_field-requires c =
-    let d = c in
-    omega (arith, size (goal.at.write_field-requires d).Start)
+    omega (arith, size (goal.at.write_field-requires c).Start)
 
 pub returns : goal.returns
 returns c =
-    let c4 = c in
-    let c3 = c4 in
-    let c2 = c3 in
-    let c1 = c2 in
-    let s = c1 in
+    let s = c in
     let a = s.args in
-    let both = stored_both {s = a.out.now} (omega (arith, size (goal.at.returns s).Start)) c1.write_field-a.ensures.0 c2.write_field-b.ensures.0 in
-    let three = stored_both (omega (arith, size (goal.at.returns s).Start)) both c3.write_field-c.ensures.0 in
-    let four = stored_both (omega (arith, size (goal.at.returns s).Start)) three c4.write_field-d.ensures.0 in
+    let both = stored_both {s = a.out.now} (omega (arith, size (goal.at.returns s).Start)) c.write_field-a.ensures.0 c.write_field-b.ensures.0 in
+    let three = stored_both (omega (arith, size (goal.at.returns s).Start)) both c.write_field-c.ensures.0 in
+    let four = stored_both (omega (arith, size (goal.at.returns s).Start)) three c.write_field-d.ensures.0 in
     let five = stored_both (omega (arith, size (goal.at.returns s).Start)) four c.write_field.ensures.0 in
     rw (line_fields a.week a.product a.change a.start a.end) at five
 

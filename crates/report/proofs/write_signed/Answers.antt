@@ -1,5 +1,4 @@
 -- `report::write_signed` meets its contract. Assumes nothing.
-use borrow.Author.Rules.{rules}
 use native.Mathlib.Omega.{arith}
 use mathlib.Core.Path.{◌≡◌, sym, ap, ◌∙◌}
 use mathlib.Core.List.{◌∷◌}
@@ -28,15 +27,13 @@ plain c =
 
 pub write_byte-p-requires : goal.write_byte-p-requires
 write_byte-p-requires c =
-    let s = c in
-    omega (arith, rw (below_zero s.args.z s.ranges.z c.if-z-lt0.true).text at s.requires)
+    omega (arith, rw (below_zero c.args.z c.ranges.z c.if-z-lt0.true).text at c.requires)
 
 pub returns-then-z-lt0 : goal.returns-then-z-lt0
 returns-then-z-lt0 c =
-    let d = c in
-    let b = d.write_byte-p in
-    let out = d.args.out.now in
-    rw (minus (goal.at.returns-then-z-lt0 d).After-magnitude) (stored_both {s = out} (omega arith) b.ensures c.write_decimal.ensures)
+    let b = c.write_byte-p in
+    let out = c.args.out.now in
+    rw (minus (goal.at.returns-then-z-lt0 c).After-magnitude) (stored_both {s = out} (omega arith) b.ensures c.write_decimal.ensures)
 
 pub write_decimal-requires : goal.write_decimal-requires
 write_decimal-requires c =

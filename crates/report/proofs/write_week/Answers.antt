@@ -3,13 +3,11 @@ use borrow.Author.Rules.{rules}
 use native.Mathlib.Omega.{arith}
 use mathlib.Core.Path.{◌≡◌, refl, ap, ◌∙◌}
 use mathlib.Core.List.{List, [], ◌∷◌, ◌++◌}
-use Prim.Native.Nat.{ℕ, ◌+◌, ◌*◌, ◌-◌, ◌<◌, ◌≤◌, ◌^◌}
+use Prim.Native.Nat.{ℕ, ◌+◌, ◌<◌, ◌^◌}
 use lib.ListN.{length, length-append}
 use Rattle.costs.specs.declared.Mounted.TheVariants.{Product}
-use Rattle.costs.specs.Mounted.{mounted_below}
 use Rattle.report.specs.Text.{line}
-use Rattle.report.specs.Weeks.{week_text}
-use Rattle.report.proofs.StoredText.{Rest, rest_start, rest_step, rest_end}
+use Rattle.report.proofs.StoredText.{rest_start, rest_step, rest_end}
 use Rattle.report.proofs.WeekText.{few, lines_from, lines_all, lines_next, lines_end}
 use Rattle.report.proofs.write_week.Goals as goal
 use Rattle.report.proofs.write_week.Goals.{After-changeover_to-over, After-product_at-product}
@@ -55,38 +53,32 @@ next c =
 
 pub overflow_cast-mounted : goal.overflow_cast-mounted
 overflow_cast-mounted c =
-    let d = c in
-    let s = d in
-    omega (arith, known (goal.at.overflow_cast-mounted d).After-product_at-product, (few s.args.plant.now s.args.f s.requires.0.plant_good).0)
+    omega (arith, known (goal.at.overflow_cast-mounted c).After-product_at-product, (few c.args.plant.now c.args.f c.requires.0.plant_good).0)
 
 -- the clock has room
 end_fits : (c : After-changeover_to-over)
     → c.loop-k.clock + c.changeover_to-over.result.minutes.0 + c.minutes-minutes.result < 2 ^ 64
 end_fits c =
-    let s = c in
-    omega (arith, c.changeover_to-over.ensures.minutes_most, (few s.args.plant.now s.args.f s.requires.0.plant_good).0)
+    omega (arith, c.changeover_to-over.ensures.minutes_most, (few c.args.plant.now c.args.f c.requires.0.plant_good).0)
 
 pub overflow_add-week : goal.overflow_add-week
 overflow_add-week c =
-    let s = c in
-    omega (arith, s.requires.1, (few s.args.plant.now s.args.f s.requires.0.plant_good).1)
+    omega (arith, c.requires.1, (few c.args.plant.now c.args.f c.requires.0.plant_good).1)
 
 pub write_line-p-requires : goal.write_line-p-requires
 write_line-p-requires c =
-    let d = c in
-    let inv = d.loop-k.invariant in
-    omega (arith, d.requires.2, inv.3, inv.4.size, ap length (next (goal.at.write_line-p-requires d).After-changeover_to-over), length-append (here (goal.at.write_line-p-requires d).After-changeover_to-over) (later (goal.at.write_line-p-requires d).After-changeover_to-over))
+    let inv = c.loop-k.invariant in
+    omega (arith, c.requires.2, inv.3, inv.4.size, ap length (next (goal.at.write_line-p-requires c).After-changeover_to-over), length-append (here (goal.at.write_line-p-requires c).After-changeover_to-over) (later (goal.at.write_line-p-requires c).After-changeover_to-over))
 
 pub loop-k-preserved : goal.loop-k-preserved
 loop-k-preserved c =
-    let d = c in
-    let inv = d.loop-k.invariant in
+    let inv = c.loop-k.invariant in
     let w = c.write_line-p in (
       search rules,
-      known (goal.at.loop-k-preserved d).After-product_at-product,
-      omega (arith, d.changeover_to-over.ensures.minutes_most),
+      known (goal.at.loop-k-preserved c).After-product_at-product,
+      omega (arith, c.changeover_to-over.ensures.minutes_most),
       search rules,
-      rest_step (here (goal.at.loop-k-preserved d).After-changeover_to-over) (later (goal.at.loop-k-preserved d).After-changeover_to-over) w.result (omega (arith, d.requires.2, inv.3, inv.4.size)) (next (goal.at.loop-k-preserved d).After-changeover_to-over) inv.4 w.ensures,
+      rest_step (here (goal.at.loop-k-preserved c).After-changeover_to-over) (later (goal.at.loop-k-preserved c).After-changeover_to-over) w.result (omega (arith, c.requires.2, inv.3, inv.4.size)) (next (goal.at.loop-k-preserved c).After-changeover_to-over) inv.4 w.ensures,
     )
 
 pub returns : goal.returns

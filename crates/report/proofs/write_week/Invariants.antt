@@ -1,16 +1,11 @@
 -- `report::write_week` meets its contract: the lines from slot `k` on, stored, give the whole. Assumes nothing.
-use borrow.Author.Rules.{rules}
-use native.Mathlib.Omega.{arith}
-use mathlib.Core.Path.{◌≡◌, refl, ap, ◌∙◌}
-use mathlib.Core.List.{List, [], ◌∷◌, ◌++◌}
-use Prim.Native.Nat.{ℕ, ◌+◌, ◌*◌, ◌-◌, ◌<◌, ◌≤◌, ◌^◌}
-use lib.ListN.{length, length-append}
-use Rattle.costs.specs.declared.Mounted.TheVariants.{Product}
+use mathlib.Core.Path.{◌≡◌}
+use Prim.Native.Nat.{◌*◌, ◌-◌, ◌≤◌}
+use lib.ListN.{length}
 use Rattle.costs.specs.Mounted.{mounted_below}
-use Rattle.report.specs.Text.{line}
 use Rattle.report.specs.Weeks.{week_text}
-use Rattle.report.proofs.StoredText.{Rest, rest_start, rest_step, rest_end}
-use Rattle.report.proofs.WeekText.{few, lines_from, lines_all, lines_next, lines_end}
+use Rattle.report.proofs.StoredText.{Rest}
+use Rattle.report.proofs.WeekText.{lines_from}
 use Rattle.report.proofs.write_week.Given as goal
 
 abbrev pub invariant-loop-k : goal.invariant-loop-k

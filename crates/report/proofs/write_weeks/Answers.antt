@@ -3,10 +3,8 @@ use borrow.Author.Rules.{rules}
 use native.Mathlib.Omega.{arith}
 use native.Mathlib.Numerals.{add-one}
 use mathlib.Core.Path.{◌≡◌, refl}
-use Prim.Native.Nat.{◌+◌, ◌-◌, ◌≤◌}
+use Prim.Native.Nat.{◌+◌, ◌≤◌}
 use lib.ListN.{length}
-use Rattle.mathematics.specs.Below.{join_below}
-use Rattle.report.specs.Stored.{Stored}
 use Rattle.report.specs.Weeks.{week_text}
 use Rattle.report.proofs.StoredText.{stored_none, stored_both}
 use Rattle.report.proofs.WeekText.{join_room}

@@ -1,15 +1,10 @@
 -- `report::write_weeks` meets its contract: the loop has stored the lines of the weeks before `week`. Assumes nothing.
-use borrow.Author.Rules.{rules}
-use native.Mathlib.Omega.{arith}
-use native.Mathlib.Numerals.{add-one}
-use mathlib.Core.Path.{◌≡◌, refl}
-use Prim.Native.Nat.{◌+◌, ◌-◌, ◌≤◌}
+use mathlib.Core.Path.{◌≡◌}
+use Prim.Native.Nat.{◌-◌, ◌≤◌}
 use lib.ListN.{length}
 use Rattle.mathematics.specs.Below.{join_below}
 use Rattle.report.specs.Stored.{Stored}
 use Rattle.report.specs.Weeks.{week_text}
-use Rattle.report.proofs.StoredText.{stored_none, stored_both}
-use Rattle.report.proofs.WeekText.{join_room}
 use Rattle.report.proofs.write_weeks.Given as goal
 
 abbrev pub invariant-loop-week : goal.invariant-loop-week

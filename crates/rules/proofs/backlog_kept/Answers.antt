@@ -3,11 +3,7 @@ use borrow.Author.Rules.{rules}
 use native.Mathlib.Numerals.{add-one}
 use native.Mathlib.Omega.{arith}
 use mathlib.Core.Path.{◌≡◌}
-use Prim.Native.Nat.{◌*◌, ◌/◌, ◌%◌, ◌≤◌, ◌-◌}
-use Rattle.mathematics.specs.Below.{all_below}
-use Rattle.plant_file.specs.Plant.{plant_of}
-use Rattle.plan_file.specs.Plan.{plan_of}
-use Rattle.rules.specs.Rules.{backlog_at}
+use Prim.Native.Nat.{◌*◌}
 use Rattle.rules.proofs.ProductRules.{backlog_weeks}
 use Rattle.rules.proofs.backlog_kept.Goals as goal
 

@@ -1,14 +1,10 @@
 -- `rules::backlog_kept` meets its contract: the loop has tried the pairs below `pair`. Assumes nothing.
-use borrow.Author.Rules.{rules}
-use native.Mathlib.Numerals.{add-one}
-use native.Mathlib.Omega.{arith}
 use mathlib.Core.Path.{◌≡◌}
-use Prim.Native.Nat.{◌*◌, ◌/◌, ◌%◌, ◌≤◌, ◌-◌}
+use Prim.Native.Nat.{◌/◌, ◌%◌, ◌≤◌, ◌-◌}
 use Rattle.mathematics.specs.Below.{all_below}
 use Rattle.plant_file.specs.Plant.{plant_of}
 use Rattle.plan_file.specs.Plan.{plan_of}
 use Rattle.rules.specs.Rules.{backlog_at}
-use Rattle.rules.proofs.ProductRules.{backlog_weeks}
 use Rattle.rules.proofs.backlog_kept.Given as goal
 
 abbrev pub invariant-loop-pair : goal.invariant-loop-pair

@@ -3,11 +3,7 @@ use borrow.Author.Rules.{rules}
 use native.Mathlib.Numerals.{add-one}
 use native.Mathlib.Omega.{arith}
 use mathlib.Core.Path.{◌≡◌, refl}
-use Prim.Native.Nat.{◌/◌, ◌%◌, ◌^◌, ◌≤◌, ◌<◌, ◌-◌}
-use Rattle.mathematics.specs.Below.{all_below}
-use Rattle.plant_file.specs.Plant.{plant_of}
-use Rattle.plan_file.specs.Plan.{plan_of}
-use Rattle.rules.specs.Rules.{backlog_before, backlog_at}
+use Rattle.rules.specs.Rules.{backlog_before}
 use Rattle.rules.proofs.backlog_over.Goals as goal
 
 pub loop-week-init : goal.loop-week-init

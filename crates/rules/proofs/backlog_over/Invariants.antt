@@ -1,8 +1,5 @@
 -- `rules::backlog_over` meets its contract: the loop has tried the weeks below `week`, and `before` is owed before it. Assumes nothing.
-use borrow.Author.Rules.{rules}
-use native.Mathlib.Numerals.{add-one}
-use native.Mathlib.Omega.{arith}
-use mathlib.Core.Path.{◌≡◌, refl}
+use mathlib.Core.Path.{◌≡◌}
 use Prim.Native.Nat.{◌/◌, ◌%◌, ◌^◌, ◌≤◌, ◌<◌, ◌-◌}
 use Rattle.mathematics.specs.Below.{all_below}
 use Rattle.plant_file.specs.Plant.{plant_of}

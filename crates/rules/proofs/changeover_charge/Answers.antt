@@ -1,5 +1,4 @@
 -- `rules::changeover_charge` meets its contract. Assumes nothing.
-use borrow.Author.Rules.{rules}
 use native.Mathlib.Omega.{arith}
 use Rattle.rules.specs.Rules.{changeover_charge_in}
 use Rattle.rules.proofs.changeover_charge.Goals as goal

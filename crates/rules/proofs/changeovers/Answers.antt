@@ -1,5 +1,4 @@
 -- `rules::changeovers` meets its contract. Assumes nothing.
-use borrow.Author.Rules.{rules}
 use native.Mathlib.Omega.{arith}
 use Rattle.rules.specs.Rules.{changeovers_in}
 use Rattle.rules.proofs.changeovers.Goals as goal

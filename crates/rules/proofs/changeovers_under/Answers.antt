@@ -4,8 +4,7 @@ use native.Mathlib.Numerals.{add-one}
 use native.Mathlib.Omega.{arith}
 use native.Mathlib.Nat.{mul-le-mul}
 use mathlib.Core.Path.{◌≡◌, refl, ◌∙◌}
-use Prim.Native.Nat.{ℕ, ◌*◌, ◌/◌, ◌%◌, ◌-◌, ◌≤◌}
-use Rattle.mathematics.specs.Below.{sum_below}
+use Prim.Native.Nat.{◌*◌, ◌≤◌}
 use Rattle.mathematics.proofs.Tables.{sum_table}
 use Rattle.sections.specs.Limits.{most_changeover_minutes, most_changeover_cents}
 use Rattle.plant_file.specs.Plant.{plant_of}
@@ -46,14 +45,13 @@ cents_most c = omega (arith, c.charged-taken.ensures.3, c.changeover.ensures.cen
 
 pub loop-arc-preserved : goal.loop-arc-preserved
 loop-arc-preserved c =
-    let d = c in
-    let i = d.loop-arc.invariant in (
+    let i = c.loop-arc.invariant in (
       search rules,
       i.1,
-      rw add-one (omega (arith, i.2, minutes_taken (goal.at.loop-arc-preserved d).After-charged-taken)),
-      rw add-one (omega (arith, i.3, cents_taken (goal.at.loop-arc-preserved d).After-charged-taken)),
-      omega (arith, i.4, minutes_most (goal.at.loop-arc-preserved d).After-charged-taken),
-      omega (arith, i.5, cents_most (goal.at.loop-arc-preserved d).After-charged-taken),
+      rw add-one (omega (arith, i.2, minutes_taken (goal.at.loop-arc-preserved c).After-charged-taken)),
+      rw add-one (omega (arith, i.3, cents_taken (goal.at.loop-arc-preserved c).After-charged-taken)),
+      omega (arith, i.4, minutes_most (goal.at.loop-arc-preserved c).After-charged-taken),
+      omega (arith, i.5, cents_most (goal.at.loop-arc-preserved c).After-charged-taken),
     )
 
 pub returns : goal.returns

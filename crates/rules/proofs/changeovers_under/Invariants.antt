@@ -1,19 +1,12 @@
 -- `rules::changeovers_under` meets its contract: the loop has added the arcs below `arc`. Assumes nothing.
-use borrow.Author.Rules.{rules}
-use native.Mathlib.Numerals.{add-one}
-use native.Mathlib.Omega.{arith}
-use native.Mathlib.Nat.{mul-le-mul}
-use mathlib.Core.Path.{◌≡◌, refl, ◌∙◌}
+use mathlib.Core.Path.{◌≡◌}
 use Prim.Native.Nat.{ℕ, ◌*◌, ◌/◌, ◌%◌, ◌-◌, ◌≤◌}
 use Rattle.mathematics.specs.Below.{sum_below}
-use Rattle.mathematics.proofs.Tables.{sum_table}
 use Rattle.sections.specs.Limits.{most_changeover_minutes, most_changeover_cents}
 use Rattle.plant_file.specs.Plant.{plant_of}
-use Rattle.plant_file.proofs.PlantInRange.{plant_ranges}
 use Rattle.plan_file.specs.Plan.{plan_of}
 use Rattle.plan_file.specs.Tables.{changeover_table_of}
 use Rattle.costs.specs.Changeover.{changeover_between}
-use Rattle.rules.specs.Rules.{changeovers_under}
 use Rattle.rules.proofs.changeovers_under.Given as goal
 
 -- what an arc of n products takes under its mark

@@ -1,7 +1,4 @@
 -- `rules::each_product` meets its contract: the loop has tried the products below `i`. Assumes nothing.
-use borrow.Author.Rules.{rules}
-use native.Mathlib.Numerals.{add-one}
-use native.Mathlib.Omega.{arith}
 use mathlib.Core.Path.{◌≡◌}
 use Prim.Native.Nat.{◌≤◌, ◌-◌}
 use Rattle.mathematics.specs.Below.{all_below}

@@ -3,11 +3,6 @@ use borrow.Author.Rules.{rules}
 use native.Mathlib.Numerals.{add-one}
 use native.Mathlib.Omega.{arith}
 use mathlib.Core.Path.{◌≡◌}
-use Prim.Native.Nat.{◌≤◌, ◌-◌}
-use Rattle.mathematics.specs.Below.{all_below}
-use Rattle.plant_file.specs.Plant.{plant_of}
-use Rattle.plan_file.specs.Plan.{plan_of}
-use Rattle.rules.specs.Verdict.{trials, keeps_of}
 use Rattle.rules.proofs.each_week.Goals as goal
 
 pub returns : goal.returns

@@ -1,5 +1,4 @@
 -- `rules::follows_at` meets its contract. Assumes nothing.
-use borrow.Author.Rules.{rules}
 use Rattle.rules.proofs.follows_at.Goals as goal
 
 pub returns : goal.returns

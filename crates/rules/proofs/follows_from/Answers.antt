@@ -3,10 +3,6 @@ use borrow.Author.Rules.{rules}
 use native.Mathlib.Numerals.{add-one}
 use native.Mathlib.Omega.{arith}
 use mathlib.Core.Path.{◌≡◌}
-use Prim.Native.Nat.{◌≤◌, ◌-◌}
-use Rattle.mathematics.specs.Below.{all_below}
-use Rattle.plan_file.specs.Plan.{plan_of}
-use Rattle.rules.specs.Products.{follows_at}
 use Rattle.rules.proofs.follows_from.Goals as goal
 
 pub returns : goal.returns

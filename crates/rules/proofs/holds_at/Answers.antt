@@ -1,5 +1,4 @@
 -- `rules::holds_at` meets its contract. Assumes nothing.
-use borrow.Author.Rules.{rules}
 use Rattle.rules.proofs.holds_at.Goals as goal
 
 pub returns-in-Run : goal.returns-in-Run

@@ -1,5 +1,4 @@
 -- `rules::inventory_at` meets its contract. Assumes nothing.
-use borrow.Author.Rules.{rules}
 use Rattle.rules.proofs.inventory_at.Goals as goal
 
 pub returns : goal.returns

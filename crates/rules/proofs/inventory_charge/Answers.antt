@@ -3,11 +3,8 @@ use borrow.Author.Rules.{rules}
 use native.Mathlib.Numerals.{add-one}
 use native.Mathlib.Omega.{arith}
 use mathlib.Core.Path.{◌≡◌, refl, ◌∙◌}
-use Prim.Native.Nat.{◌*◌, ◌-◌, ◌≤◌}
-use Rattle.mathematics.specs.Below.{sum_below}
-use Rattle.plant_file.specs.Plant.{plant_of}
+use Prim.Native.Nat.{◌*◌}
 use Rattle.plant_file.proofs.PlantInRange.{plant_ranges}
-use Rattle.plan_file.specs.Plan.{plan_of}
 use Rattle.rules.specs.Rules.{inventory_charge_in}
 use Rattle.rules.proofs.inventory_charge.Goals as goal
 
@@ -17,10 +14,9 @@ loop-product-init c =
 
 pub loop-product-preserved : goal.loop-product-preserved
 loop-product-preserved c =
-    let d = c in
-    let i = d.loop-product.invariant in
-    let e = d.charge-held.ensures.0 ∙ (λ u. d.inventory_cost.ensures.0 u * d.inventory.ensures.0 u) in
-    (search rules, i.1, rw add-one (omega (arith, i.2, e)), omega (arith, i.3, d.charge-held.ensures.1))
+    let i = c.loop-product.invariant in
+    let e = c.charge-held.ensures.0 ∙ (λ u. c.inventory_cost.ensures.0 u * c.inventory.ensures.0 u) in
+    (search rules, i.1, rw add-one (omega (arith, i.2, e)), omega (arith, i.3, c.charge-held.ensures.1))
 
 pub returns : goal.returns
 unfolding inventory_charge_in

@@ -1,14 +1,9 @@
 -- `rules::inventory_charge` meets its contract: the loop has added the products below `product`. Assumes nothing.
-use borrow.Author.Rules.{rules}
-use native.Mathlib.Numerals.{add-one}
-use native.Mathlib.Omega.{arith}
-use mathlib.Core.Path.{◌≡◌, refl, ◌∙◌}
+use mathlib.Core.Path.{◌≡◌}
 use Prim.Native.Nat.{◌*◌, ◌-◌, ◌≤◌}
 use Rattle.mathematics.specs.Below.{sum_below}
 use Rattle.plant_file.specs.Plant.{plant_of}
-use Rattle.plant_file.proofs.PlantInRange.{plant_ranges}
 use Rattle.plan_file.specs.Plan.{plan_of}
-use Rattle.rules.specs.Rules.{inventory_charge_in}
 use Rattle.rules.proofs.inventory_charge.Given as goal
 
 abbrev pub invariant-loop-product : goal.invariant-loop-product

@@ -7,9 +7,8 @@ use Rattle.rules.proofs.is_profit.Goals as goal
 
 pub returns : goal.returns
 returns c =
-    let s = c in
-    let f : SFits w64 s.args.profit.0 = search rules in
-    profit_same s.args.profit.0 s.args.gained.0 s.args.lost.0 s.requires.0 s.requires.1 f
+    let f : SFits w64 c.args.profit.0 = search rules in
+    profit_same c.args.profit.0 c.args.gained.0 c.args.lost.0 c.requires.0 c.requires.1 f
 
 pub overflow_sub-result : goal.overflow_sub-result
 overflow_sub-result c =

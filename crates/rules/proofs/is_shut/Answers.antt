@@ -1,5 +1,4 @@
 -- `rules::is_shut` meets its contract: past each test the sum is 0. Assumes nothing.
-use borrow.Author.Rules.{rules}
 use borrow.Author.Tests.{eq-eqb, ne_eqb}
 use native.Mathlib.Omega.{arith}
 use mathlib.Core.Path.{◌≡◌, ap}
@@ -26,16 +25,14 @@ returns-then-week_sum-ne0 c =
 pub returns-then-week_sum-ne0-2 : goal.returns-then-week_sum-ne0-2
 unfolding shut week_of
 returns-then-week_sum-ne0-2 c =
-    let start = c in
-    let made : sum_in start.args.f start.args.plan.now start.args.week (λ x. x.assigned) ≡ 0 = omega (arith, c.week_sum.ensures.0, c.if-week_sum-ne0.false) in
-    let firsts = sum_in start.args.f start.args.plan.now start.args.week (λ x. x.first) in
+    let made : sum_in c.args.f c.args.plan.now c.args.week (λ x. x.assigned) ≡ 0 = omega (arith, c.week_sum.ensures.0, c.if-week_sum-ne0.false) in
+    let firsts = sum_in c.args.f c.args.plan.now c.args.week (λ x. x.first) in
     rw (eq-eqb _ 0 made, ne_eqb firsts 0 (λ e. c.if-week_sum-ne0-2.true (omega (arith, c.week_sum-2.ensures.0, e))))
 
 pub returns : goal.returns
 unfolding shut week_of
 returns c =
-    let start = c in
-    let made : sum_in start.args.f start.args.plan.now start.args.week (λ x. x.assigned) ≡ 0 =
+    let made : sum_in c.args.f c.args.plan.now c.args.week (λ x. x.assigned) ≡ 0 =
     omega (arith, c.week_sum.ensures.0, c.if-week_sum-ne0.false) in
-    let firsts : sum_in start.args.f start.args.plan.now start.args.week (λ x. x.first) ≡ 0 = omega (arith, c.week_sum-2.ensures.0, c.if-week_sum-ne0-2.false) in
+    let firsts : sum_in c.args.f c.args.plan.now c.args.week (λ x. x.first) ≡ 0 = omega (arith, c.week_sum-2.ensures.0, c.if-week_sum-ne0-2.false) in
     rw (eq-eqb _ 0 made, eq-eqb _ 0 firsts) (ap (λ (n : ℕ). eqb n 0) c.week_sum-3.ensures.0)

@@ -1,18 +1,13 @@
 -- `rules::judge` meets its contract: the first i rules are kept. Assumes nothing.
 use borrow.Author.Rules.{rules}
-use borrow.Author.Tests.{not-true, not-false}
 use native.Mathlib.Numerals.{add-one}
 use native.Mathlib.Omega.{arith}
 use mathlib.Core.Path.{◌≡◌, sym, ap, ◌∙◌}
-use Prim.Native.Nat.{◌-◌, ◌≤◌}
 use lib.IntN.{ℤ}
 use Rattle.numbers.specs.Number.{Bytes}
-use Rattle.plant_file.specs.Plant.{plant_of}
-use Rattle.plan_file.specs.Plan.{plan_of}
-use Rattle.rules.specs.Verdict.{verdict_of}
 use Rattle.rules.specs.declared.Verdict.TheVariants.{Passed}
 use Rattle.rules.proofs.Profits.{profit_back}
-use Rattle.rules.proofs.Trials.{left, left_all, left_broken, left_next, profit_broken, all_kept}
+use Rattle.rules.proofs.Trials.{left_all, left_broken, left_next, profit_broken, all_kept}
 use Rattle.rules.proofs.judge.Goals as goal
 use Rattle.rules.proofs.judge.Goals.{After-loop-i}
 
@@ -32,16 +27,13 @@ loop-i-preserved c =
 
 pub returns-then-not-profit_holds : goal.returns-then-not-profit_holds
 returns-then-not-profit_holds c =
-    let b = c in
-    sym (profit_broken _ _ _ (last (goal.at.returns-then-not-profit_holds b).After-loop-i) (sym c.profit_holds.ensures ∙ c.if-not-profit_holds.true)) ∙ b.loop-i.invariant.1
+    sym (profit_broken _ _ _ (last (goal.at.returns-then-not-profit_holds c).After-loop-i) (sym c.profit_holds.ensures ∙ c.if-not-profit_holds.true)) ∙ c.loop-i.invariant.1
 
 pub returns : goal.returns
 returns c =
-    let b = c in
-    let s = b in
-    let bytes : Bytes s.args.plan.now = λ i. (b.shared_slice_known-2-1.given i).fits in
-    ap (λ (z : ℤ). Passed (record { 0 = z })) (profit_back _ _ bytes s.requires.1 c.profit-profit.ensures)
-    ∙ (sym (all_kept _ _ _ (last (goal.at.returns b).After-loop-i) (sym c.profit_holds.ensures ∙ c.if-not-profit_holds.false)) ∙ b.loop-i.invariant.1)
+    let bytes : Bytes c.args.plan.now = λ i. (c.shared_slice_known-2-1.given i).fits in
+    ap (λ (z : ℤ). Passed (record { 0 = z })) (profit_back _ _ bytes c.requires.1 c.profit-profit.ensures)
+    ∙ (sym (all_kept _ _ _ (last (goal.at.returns c).After-loop-i) (sym c.profit_holds.ensures ∙ c.if-not-profit_holds.false)) ∙ c.loop-i.invariant.1)
 
 pub loop-i-init : goal.loop-i-init
 loop-i-init c =

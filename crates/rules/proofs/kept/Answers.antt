@@ -1,5 +1,4 @@
 -- `rules::kept` meets its contract. Assumes nothing.
-use borrow.Author.Rules.{rules}
 use Rattle.rules.specs.Verdict.{trials, keeps_of}
 use Rattle.rules.proofs.kept.Goals as goal
 

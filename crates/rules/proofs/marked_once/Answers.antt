@@ -3,12 +3,7 @@ use borrow.Author.Rules.{rules}
 use native.Mathlib.Numerals.{add-one}
 use native.Mathlib.Omega.{arith}
 use mathlib.Core.Path.{◌≡◌, refl}
-use Prim.Native.Nat.{◌*◌, ◌≤◌, ◌-◌}
-use lib.Dec.{eqb}
-use Rattle.mathematics.specs.Below.{sum_below, all_below, implies}
 use Rattle.mathematics.specs.Week.{marked_once}
-use Rattle.plan_file.specs.Plan.{plan_of}
-use Rattle.plan_file.specs.Tables.{product_table_of}
 use Rattle.rules.proofs.marked_once.Goals as goal
 
 pub loop-i-preserved : goal.loop-i-preserved

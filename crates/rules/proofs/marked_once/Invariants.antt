@@ -1,12 +1,8 @@
 -- `rules::marked_once` meets its contract: the loop has added and tried the marks below `i`. Assumes nothing.
-use borrow.Author.Rules.{rules}
-use native.Mathlib.Numerals.{add-one}
-use native.Mathlib.Omega.{arith}
-use mathlib.Core.Path.{◌≡◌, refl}
+use mathlib.Core.Path.{◌≡◌}
 use Prim.Native.Nat.{◌*◌, ◌≤◌, ◌-◌}
 use lib.Dec.{eqb}
 use Rattle.mathematics.specs.Below.{sum_below, all_below, implies}
-use Rattle.mathematics.specs.Week.{marked_once}
 use Rattle.plan_file.specs.Plan.{plan_of}
 use Rattle.plan_file.specs.Tables.{product_table_of}
 use Rattle.rules.proofs.marked_once.Given as goal

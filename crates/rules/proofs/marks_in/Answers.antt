@@ -1,6 +1,5 @@
 -- `rules::marks_in` meets its contract. Assumes nothing.
-use borrow.Author.Rules.{rules}
-use mathlib.Core.Path.{◌≡◌, sym, ◌∙◌}
+use mathlib.Core.Path.{sym, ◌∙◌}
 use mathlib.Core.Bool.{or-true, or-false}
 use Rattle.mathematics.specs.Week.{one_each, rule31}
 use Rattle.plan_file.specs.Plan.{plan_of}

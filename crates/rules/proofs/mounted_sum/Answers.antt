@@ -3,11 +3,6 @@ use borrow.Author.Rules.{rules}
 use native.Mathlib.Numerals.{add-one}
 use native.Mathlib.Omega.{arith}
 use mathlib.Core.Path.{◌≡◌, refl}
-use Prim.Native.Nat.{◌≤◌, ◌-◌}
-use Rattle.mathematics.specs.Below.{sum_below}
-use Rattle.plant_file.specs.Plant.{plant_of}
-use Rattle.plan_file.specs.Plan.{plan_of}
-use Rattle.rules.specs.Rules.{mounted_after}
 use Rattle.rules.proofs.mounted_sum.Goals as goal
 
 pub loop-product-preserved : goal.loop-product-preserved

@@ -3,10 +3,9 @@ use borrow.Author.Rules.{rules}
 use native.Mathlib.Numerals.{add-one}
 use native.Mathlib.Omega.{arith}
 use mathlib.Core.Path.{◌≡◌, refl, ap, ◌∙◌}
-use Prim.Native.Nat.{ℕ, ◌*◌, ◌/◌, ◌%◌, ◌-◌, ◌≤◌}
+use Prim.Native.Nat.{ℕ, ◌*◌}
 use Rattle.mathematics.specs.Below.{sum_below}
 use Rattle.plant_file.proofs.PlantInRange.{plant_ranges}
-use Rattle.plan_file.specs.Plan.{plan_of}
 use Rattle.rules.proofs.pair_market.Goals as goal
 
 pub loop-week-init : goal.loop-week-init
@@ -34,16 +33,15 @@ loop-week-preserved c =
 
 pub returns : goal.returns
 returns c =
-    let t = c in
-    let a = t.args in
-    let all : (f : ℕ → ℕ) → sum_below t.loop-week.week f ≡ sum_below a.f.weeks f =
-    λ f. let e : t.loop-week.week ≡ a.f.weeks = omega arith in ap (λ (k : ℕ). sum_below k f) e in
-    let sold = t.loop-week.invariant.2 ∙ all _ in
-    let owed = t.loop-week.invariant.3 ∙ all _ in (
+    let a = c.args in
+    let all : (f : ℕ → ℕ) → sum_below c.loop-week.week f ≡ sum_below a.f.weeks f =
+    λ f. let e : c.loop-week.week ≡ a.f.weeks = omega arith in ap (λ (k : ℕ). sum_below k f) e in
+    let sold = c.loop-week.invariant.2 ∙ all _ in
+    let owed = c.loop-week.invariant.3 ∙ all _ in (
       c.charge-bought.ensures.0 ∙ (λ u. c.pair_price.ensures.0 u * sold u),
       c.charge-owed.ensures.0 ∙ (λ u. c.pair_backlog_cost.ensures.0 u * owed u),
-      omega (arith, c.charge-bought.ensures.1, t.loop-week.invariant),
-      omega (arith, c.charge-owed.ensures.1, t.loop-week.invariant),
+      omega (arith, c.charge-bought.ensures.1, c.loop-week.invariant),
+      omega (arith, c.charge-owed.ensures.1, c.loop-week.invariant),
     )
 
 pub charge-bought-requires : goal.charge-bought-requires

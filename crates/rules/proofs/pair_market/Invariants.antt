@@ -1,11 +1,7 @@
 -- `rules::pair_market` meets its contract: the loop has added the weeks below `week`. Assumes nothing.
-use borrow.Author.Rules.{rules}
-use native.Mathlib.Numerals.{add-one}
-use native.Mathlib.Omega.{arith}
-use mathlib.Core.Path.{◌≡◌, refl, ap, ◌∙◌}
-use Prim.Native.Nat.{ℕ, ◌*◌, ◌/◌, ◌%◌, ◌-◌, ◌≤◌}
+use mathlib.Core.Path.{◌≡◌}
+use Prim.Native.Nat.{◌*◌, ◌/◌, ◌%◌, ◌-◌, ◌≤◌}
 use Rattle.mathematics.specs.Below.{sum_below}
-use Rattle.plant_file.proofs.PlantInRange.{plant_ranges}
 use Rattle.plan_file.specs.Plan.{plan_of}
 use Rattle.rules.proofs.pair_market.Given as goal
 

@@ -1,5 +1,4 @@
 -- `rules::passage_at` meets its contract. Assumes nothing.
-use borrow.Author.Rules.{rules}
 use Rattle.rules.specs.Products.{passage_at}
 use Rattle.rules.proofs.passage_at.Goals as goal
 

@@ -4,7 +4,7 @@ use native.Mathlib.Numerals.{add-one}
 use native.Mathlib.Omega.{arith}
 use mathlib.Core.Path.{◌≡◌, ap, ◌∙◌}
 use mathlib.Core.Bool.{Bool, ◌&&◌}
-use Prim.Native.Nat.{ℕ, ◌≤◌, ◌-◌}
+use Prim.Native.Nat.{ℕ}
 use lib.ListN.{get_or}
 use Rattle.mathematics.specs.Below.{all_below}
 use Rattle.plant_file.specs.Plant.{plant_of}
@@ -17,36 +17,31 @@ use Rattle.rules.proofs.passages_in.Goals as goal
 pub returns : goal.returns
 unfolding mounted_before
 returns c =
-    let firsts = c in
-    let mounted = firsts in
-    let end = mounted in
-    let r = end.arc_sums-sums in
-    let a = end.args in
+    let r = c.arc_sums-sums in
+    let a = c.args in
     let line = (plant_of a.f a.plant.now).line in
     let x = (plan_of a.f a.plan.now).line in
     let into : ℕ → ℕ = λ p. get_or r.result.into p 0 in
     let out : ℕ → ℕ = λ p. get_or r.result.out p 0 in
-    let n = end.as_usize-n.ensures.0 in
+    let n = c.as_usize-n.ensures.0 in
     let e : c.loop-i.i ≡ a.f.products = omega (arith, n) in
-    let at : ℕ → Bool = λ p. passage_at (into p) (out p) (mounted_after line x end.production_end-weeks.result p) mounted.mounted_sum-mounted.result
-    firsts.week_sum-firsts.result x a.week p in
+    let at : ℕ → Bool = λ p. passage_at (into p) (out p) (mounted_after line x c.production_end-weeks.result p) c.mounted_sum-mounted.result
+    c.week_sum-firsts.result x a.week p in
     c.loop-i.invariant.1
     ∙ (ap (λ (k : ℕ). all_below k at) e
-    ∙ rw (mounted.mounted_sum-mounted.ensures.0, firsts.week_sum-firsts.ensures.0, end.production_end-weeks.ensures.0)
+    ∙ rw (c.mounted_sum-mounted.ensures.0, c.week_sum-firsts.ensures.0, c.production_end-weeks.ensures.0)
     (passages_week a.f.products x a.week into out line r.ensures.into r.ensures.out))
 
 pub passage_at-here-requires : goal.passage_at-here-requires
 passage_at-here-requires c =
-    let firsts = c in
-    let end = firsts in
-    let judged = end.requires.0 in
-    let n = end.as_usize-n.ensures.0 in (
+    let judged = c.requires.0 in
+    let n = c.as_usize-n.ensures.0 in (
       judged.plan,
       judged.week,
       omega (arith, c.loop-i-test.true, n),
       c.mounted_after-before.ensures.1,
-      firsts.mounted_sum-mounted.ensures.1,
-      firsts.week_sum-firsts.ensures.1,
+      c.mounted_sum-mounted.ensures.1,
+      c.week_sum-firsts.ensures.1,
     )
 
 pub loop-i-preserved : goal.loop-i-preserved

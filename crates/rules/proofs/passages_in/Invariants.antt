@@ -1,17 +1,12 @@
 -- `rules::passages_in` meets its contract: the loop has tried the products below `i`. Assumes nothing.
-use borrow.Author.Rules.{rules}
-use native.Mathlib.Numerals.{add-one}
-use native.Mathlib.Omega.{arith}
-use mathlib.Core.Path.{◌≡◌, ap, ◌∙◌}
-use mathlib.Core.Bool.{Bool, ◌&&◌}
-use Prim.Native.Nat.{ℕ, ◌≤◌, ◌-◌}
+use mathlib.Core.Path.{◌≡◌}
+use Prim.Native.Nat.{◌≤◌, ◌-◌}
 use lib.ListN.{get_or}
 use Rattle.mathematics.specs.Below.{all_below}
 use Rattle.plant_file.specs.Plant.{plant_of}
 use Rattle.plan_file.specs.Plan.{plan_of}
-use Rattle.rules.specs.Rules.{mounted_after, mounted_before}
+use Rattle.rules.specs.Rules.{mounted_after}
 use Rattle.rules.specs.Products.{passage_at}
-use Rattle.rules.proofs.ProductRules.{passages_week}
 use Rattle.rules.proofs.passages_in.Given as goal
 
 abbrev pub invariant-loop-i : goal.invariant-loop-i

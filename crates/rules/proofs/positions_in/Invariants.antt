@@ -1,14 +1,10 @@
 -- `rules::positions_in` meets its contract: the loop has tried the products below `i`. Assumes nothing.
-use borrow.Author.Rules.{rules}
-use native.Mathlib.Numerals.{add-one}
-use native.Mathlib.Omega.{arith}
 use mathlib.Core.Path.{◌≡◌}
 use mathlib.Core.Bool.{◌&&◌}
 use Prim.Native.Nat.{◌≤◌, ◌-◌}
 use Rattle.mathematics.specs.Below.{all_below}
 use Rattle.plan_file.specs.Plan.{plan_of}
 use Rattle.rules.specs.Products.{position_at, follows_at}
-use Rattle.rules.proofs.ProductRules.{positions_week}
 use Rattle.rules.proofs.positions_in.Given as goal
 
 abbrev pub invariant-loop-i : goal.invariant-loop-i

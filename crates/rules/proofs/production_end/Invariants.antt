@@ -1,12 +1,8 @@
 -- `rules::production_end` meets its contract: the weeks from `weeks` on are shut. Assumes nothing.
-use borrow.Author.Rules.{rules}
-use borrow.Author.Tests.{not-true, not-false}
-use native.Mathlib.Omega.{arith}
-use mathlib.Core.Path.{◌≡◌, refl, sym, ◌∙◌}
-use Prim.Native.Nat.{◌≤◌, ◌-◌}
+use mathlib.Core.Path.{◌≡◌}
+use Prim.Native.Nat.{◌≤◌}
 use Rattle.plan_file.specs.Plan.{plan_of}
 use Rattle.rules.specs.Rules.{production_end}
-use Rattle.rules.proofs.Weeks.{end_none, end_here, end_shut}
 use Rattle.rules.proofs.production_end.Given as goal
 
 abbrev pub invariant-loop-weeks : goal.invariant-loop-weeks

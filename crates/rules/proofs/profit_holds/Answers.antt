@@ -1,5 +1,4 @@
 -- `rules::profit_holds` meets its contract. Assumes nothing.
-use borrow.Author.Rules.{rules}
 use native.Mathlib.Omega.{arith}
 use Prim.Native.Nat.{◌+◌}
 use mathlib.Core.Path.{◌∙◌}
@@ -11,12 +10,9 @@ use Rattle.rules.proofs.profit_holds.Goals as goal
 
 pub returns : goal.returns
 returns c =
-    let costs = c in
-    let market = costs in
-    let s = market in
-    let bytes : Bytes s.args.plan.now = λ i. (market.shared_slice_known-2-1.given i).fits in
-    let gained = market.total_market-market.ensures in
+    let bytes : Bytes c.args.plan.now = λ i. (c.shared_slice_known-2-1.given i).fits in
+    let gained = c.total_market-market.ensures in
     c.is_profit.ensures
-    ∙ rule41_is (plant_of s.args.f s.args.plant.now) (plan_of s.args.f s.args.plan.now) _ _
-    (costs.running_costs-costs.result.0 + market.total_market-market.result.backlog.0)
-    (profit_back _ _ bytes s.requires.1 c.profit.ensures) gained.0 (omega (arith, costs.running_costs-costs.ensures.0, gained.1))
+    ∙ rule41_is (plant_of c.args.f c.args.plant.now) (plan_of c.args.f c.args.plan.now) _ _
+    (c.running_costs-costs.result.0 + c.total_market-market.result.backlog.0)
+    (profit_back _ _ bytes c.requires.1 c.profit.ensures) gained.0 (omega (arith, c.running_costs-costs.ensures.0, gained.1))

@@ -1,5 +1,4 @@
 -- `rules::running` meets its contract. Assumes nothing.
-use borrow.Author.Rules.{rules}
 use native.Mathlib.Omega.{arith}
 use Rattle.rules.proofs.running.Goals as goal
 

@@ -1,12 +1,8 @@
 -- `rules::running_costs` meets its contract: the loop has added the weeks below `week`. Assumes nothing.
-use borrow.Author.Rules.{rules}
-use native.Mathlib.Numerals.{add-one}
-use native.Mathlib.Omega.{arith}
-use mathlib.Core.Path.{◌≡◌, ap, ◌∙◌}
-use Prim.Native.Nat.{ℕ, ◌+◌, ◌*◌, ◌^◌, ◌-◌, ◌≤◌}
+use mathlib.Core.Path.{◌≡◌}
+use Prim.Native.Nat.{◌+◌, ◌*◌, ◌^◌, ◌-◌, ◌≤◌}
 use Rattle.mathematics.specs.Below.{sum_below}
 use Rattle.plant_file.specs.Plant.{plant_of}
-use Rattle.plant_file.proofs.PlantInRange.{plant_ranges}
 use Rattle.plan_file.specs.Plan.{plan_of}
 use Rattle.rules.specs.Rules.{changeover_charge_in, inventory_charge_in}
 use Rattle.rules.proofs.running_costs.Given as goal

@@ -1,5 +1,4 @@
 -- `rules::sequence_at` meets its contract. Assumes nothing.
-use borrow.Author.Rules.{rules}
 use Rattle.rules.specs.Products.{sequence_at}
 use Rattle.rules.proofs.sequence_at.Goals as goal
 

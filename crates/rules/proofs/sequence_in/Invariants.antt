@@ -1,15 +1,10 @@
 -- `rules::sequence_in` meets its contract: the loop has tried the products below `i`. Assumes nothing.
-use borrow.Author.Rules.{rules}
-use native.Mathlib.Numerals.{add-one}
-use native.Mathlib.Omega.{arith}
-use mathlib.Core.Path.{◌≡◌, ◌∙◌}
-use mathlib.Core.Bool.{◌&&◌}
-use Prim.Native.Nat.{ℕ, ◌≤◌, ◌-◌}
+use mathlib.Core.Path.{◌≡◌}
+use Prim.Native.Nat.{◌≤◌, ◌-◌}
 use lib.ListN.{get_or}
 use Rattle.mathematics.specs.Below.{all_below}
 use Rattle.plan_file.specs.Plan.{plan_of}
 use Rattle.rules.specs.Products.{sequence_at}
-use Rattle.rules.proofs.ProductRules.{sequence_week}
 use Rattle.rules.proofs.sequence_in.Given as goal
 
 abbrev pub invariant-loop-i : goal.invariant-loop-i

@@ -1,5 +1,4 @@
 -- `rules::storage_at` meets its contract. Assumes nothing.
-use borrow.Author.Rules.{rules}
 use Rattle.rules.proofs.storage_at.Goals as goal
 
 pub returns : goal.returns

@@ -4,7 +4,7 @@ use native.Mathlib.Numerals.{add-one}
 use native.Mathlib.Omega.{arith}
 use native.Mathlib.Nat.{mul-le-mul}
 use mathlib.Core.Path.{◌≡◌, refl, sym, ap, ◌∙◌}
-use Prim.Native.Nat.{ℕ, ◌*◌, ◌/◌, ◌%◌, ◌^◌, ◌-◌, ◌≤◌}
+use Prim.Native.Nat.{ℕ, ◌*◌}
 use Rattle.mathematics.specs.Below.{sum_below}
 use Rattle.plant_file.specs.Plant.{plant_of}
 use Rattle.plant_file.proofs.PlantInRange.{plant_ranges}
@@ -19,9 +19,8 @@ loop-pair-init c =
 
 pub loop-pair-preserved : goal.loop-pair-preserved
 loop-pair-preserved c =
-    let d = c in
-    let i = d.loop-pair.invariant in
-    let r = d.pair_market-one.ensures in (
+    let i = c.loop-pair.invariant in
+    let r = c.pair_market-one.ensures in (
       search rules,
       i.1,
       rw add-one (omega (arith, i.2, r.0)),

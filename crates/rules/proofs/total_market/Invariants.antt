@@ -1,15 +1,9 @@
 -- `rules::total_market` meets its contract: the loop has added the pairs below `pair`. Assumes nothing.
-use borrow.Author.Rules.{rules}
-use native.Mathlib.Numerals.{add-one}
-use native.Mathlib.Omega.{arith}
-use native.Mathlib.Nat.{mul-le-mul}
-use mathlib.Core.Path.{◌≡◌, refl, sym, ap, ◌∙◌}
-use Prim.Native.Nat.{ℕ, ◌*◌, ◌/◌, ◌%◌, ◌^◌, ◌-◌, ◌≤◌}
+use mathlib.Core.Path.{◌≡◌}
+use Prim.Native.Nat.{◌*◌, ◌/◌, ◌%◌, ◌^◌, ◌-◌, ◌≤◌}
 use Rattle.mathematics.specs.Below.{sum_below}
 use Rattle.plant_file.specs.Plant.{plant_of}
-use Rattle.plant_file.proofs.PlantInRange.{plant_ranges}
 use Rattle.plan_file.specs.Plan.{plan_of}
-use Rattle.rules.proofs.Profits.{sales_by_pair, backlog_by_pair}
 use Rattle.rules.proofs.total_market.Given as goal
 
 abbrev pub invariant-loop-pair : goal.invariant-loop-pair

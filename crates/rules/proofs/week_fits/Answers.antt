@@ -1,5 +1,4 @@
 -- `rules::week_fits` meets its contract. Assumes nothing.
-use borrow.Author.Rules.{rules}
 use Rattle.rules.specs.Rules.{rule36}
 use Rattle.rules.proofs.week_fits.Goals as goal
 

@@ -1,5 +1,4 @@
 -- `sections::area` meets its contract. Assumes nothing.
-use borrow.Author.Rules.{rules}
 use native.Mathlib.Omega.{arith}
 use native.Mathlib.Nat.{mul-le-mul}
 use Rattle.sections.proofs.Places.{byte_most}

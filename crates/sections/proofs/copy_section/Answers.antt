@@ -2,7 +2,7 @@
 use borrow.Author.Rules.{rules}
 use native.Mathlib.Omega.{arith}
 use mathlib.Core.Path.{◌≡◌, refl, sym, ap, ◌∙◌}
-use Prim.Native.Nat.{ℕ, ◌+◌, ◌*◌, ◌-◌, ◌≤◌}
+use Prim.Native.Nat.{ℕ, ◌+◌, ◌*◌, ◌≤◌}
 use mathlib.Core.List.{List}
 use lib.ListN.{length, length-set}
 use Rattle.numbers.specs.Number.{Bytes, part, store}
@@ -21,31 +21,28 @@ starts s i e h = ap (λ (x : Entry). x.offset) h
 inside : (c : In-loop-j) → let a = c.args in
     (c.entry_in-e.result.offset + c.loop-j.j + 1 ≤ length a.s.now) × (c.loop-j.j + 1 ≤ length a.out.now)
 inside c =
-    let s = c in
-    (omega (arith, starts s.args.s.now s.args.i _ s.entry_in-e.ensures.0, s.requires.0.fits, c.loop-j-test.true), omega (arith, s.requires.1, c.loop-j-test.true))
+    (omega (arith, starts c.args.s.now c.args.i _ c.entry_in-e.ensures.0, c.requires.0.fits, c.loop-j-test.true), omega (arith, c.requires.1, c.loop-j-test.true))
 
 pub loop-j-preserved : goal.loop-j-preserved
 loop-j-preserved c =
-    let d = c in
-    let b = d.loop-j in
-    let a = d.args in
+    let b = c.loop-j in
+    let a = c.args in
     let room = inside (goal.at.loop-j-preserved c).In-loop-j in (
       search rules,
       rw length-set b.invariant.1,
-      rw b.invariant.2 (copied_more a.out.now a.s.now d.entry_in-e.result.offset b.j (omega arith) (omega arith)),
+      rw b.invariant.2 (copied_more a.out.now a.s.now c.entry_in-e.result.offset b.j (omega arith) (omega arith)),
     )
 
 pub returns : goal.returns
 unfolding cell
 returns c =
-    let s = c in
-    let a = s.args in
+    let a = c.args in
     let bytes : Bytes a.s.now = λ i. (c.type_inv.s i).fits in
     let all : c.loop-j.j ≡ a.k * a.m = omega (arith, c.loop-j-test.false, c.loop-j.invariant.0) in
     let from = offset a.s.now a.i in
     c.loop-j.invariant.2
-    ∙ ((λ u. store a.out.now 0 (part a.s.now (starts a.s.now a.i _ s.entry_in-e.ensures.0 u) (all u)))
-    ∙ ap (store a.out.now 0) (sym (encode_numbers a.k a.m a.s.now from bytes s.requires.0.fits)))
+    ∙ ((λ u. store a.out.now 0 (part a.s.now (starts a.s.now a.i _ c.entry_in-e.ensures.0 u) (all u)))
+    ∙ ap (store a.out.now 0) (sym (encode_numbers a.k a.m a.s.now from bytes c.requires.0.fits)))
 
 pub entry_in-e-requires : goal.entry_in-e-requires
 entry_in-e-requires c =

@@ -1,14 +1,8 @@
 -- `sections::copy_section` meets its contract: the loop has copied the bytes below `j`. Assumes nothing.
-use borrow.Author.Rules.{rules}
-use native.Mathlib.Omega.{arith}
-use mathlib.Core.Path.{◌≡◌, refl, sym, ap, ◌∙◌}
-use Prim.Native.Nat.{◌+◌, ◌*◌, ◌-◌, ◌≤◌}
-use lib.ListN.{length, length-set}
-use Rattle.numbers.specs.Number.{Bytes, part, store}
-use Rattle.numbers.proofs.Number.{encode_numbers}
-use Rattle.contents.specs.Contents.{offset, cell}
-use Rattle.contents.specs.declared.Entry.{Entry}
-use Rattle.sections.proofs.Copies.{copied_more}
+use mathlib.Core.Path.{◌≡◌}
+use Prim.Native.Nat.{◌-◌, ◌≤◌}
+use lib.ListN.{length}
+use Rattle.numbers.specs.Number.{part, store}
 use Rattle.sections.proofs.copy_section.Given as goal
 
 abbrev pub invariant-loop-j : goal.invariant-loop-j

@@ -3,8 +3,7 @@ use borrow.Author.Rules.{rules}
 use native.Mathlib.Omega.{arith}
 use native.Mathlib.Numerals.{add-one}
 use mathlib.Core.Path.{◌≡◌, refl, ◌∙◌}
-use Prim.Native.Nat.{◌+◌, ◌*◌, ◌-◌, ◌≤◌}
-use Rattle.mathematics.specs.Below.{sum_below}
+use Prim.Native.Nat.{◌+◌, ◌*◌}
 use Rattle.contents.specs.Contents.{cell}
 use Rattle.sections.proofs.customer_sum.Goals as goal
 

@@ -1,8 +1,5 @@
 -- `sections::customer_sum` meets its contract: the loop has summed the numbers of the customers below `customer`. Assumes nothing.
-use borrow.Author.Rules.{rules}
-use native.Mathlib.Omega.{arith}
-use native.Mathlib.Numerals.{add-one}
-use mathlib.Core.Path.{◌≡◌, refl, ◌∙◌}
+use mathlib.Core.Path.{◌≡◌}
 use Prim.Native.Nat.{◌+◌, ◌*◌, ◌-◌, ◌≤◌}
 use Rattle.mathematics.specs.Below.{sum_below}
 use Rattle.contents.specs.Contents.{cell}

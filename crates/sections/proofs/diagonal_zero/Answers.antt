@@ -4,9 +4,7 @@ use native.Mathlib.Omega.{arith}
 use native.Mathlib.Numerals.{add-one}
 use mathlib.Core.Path.{◌≡◌, ap}
 use native.Mathlib.Nat.{mul-le-mul}
-use Prim.Native.Nat.{◌≤◌, ◌<◌, ◌-◌, ◌+◌, ◌*◌}
-use lib.Dec.{eqb}
-use Rattle.mathematics.specs.Below.{all_below}
+use Prim.Native.Nat.{◌<◌, ◌+◌, ◌*◌}
 use Rattle.mathematics.proofs.Join.{table_below}
 use Rattle.contents.specs.Contents.{offset, cell, Inside}
 use Rattle.contents.specs.declared.Entry.{Entry}
@@ -24,12 +22,11 @@ small c =
 inside : (c : In-loop-j) → Inside c.args.s.now c.args.i
     c.args.k (c.loop-j.j * c.args.n + c.loop-j.j)
 inside c =
-    let s = c in
     record {
-      width = s.requires.0.width;
-      listed = s.requires.0.listed;
-      few = s.requires.0.few;
-      within = omega (arith, diagonal_room s.args.k c.loop-j-test.true, s.requires.0.fits);
+      width = c.requires.0.width;
+      listed = c.requires.0.listed;
+      few = c.requires.0.few;
+      within = omega (arith, diagonal_room c.args.k c.loop-j-test.true, c.requires.0.fits);
     }
 
 starts : (c : In-loop-j) → c.entry_in-e.result.offset

@@ -3,9 +3,7 @@ use borrow.Author.Rules.{rules}
 use native.Mathlib.Omega.{arith}
 use native.Mathlib.Numerals.{add-one}
 use mathlib.Core.Path.{◌≡◌, refl, ap}
-use Prim.Native.Nat.{◌≤◌, ◌-◌, ◌+◌, ◌*◌}
 use native.Mathlib.Nat.{add-zero}
-use Rattle.mathematics.specs.Below.{all_below, within}
 use Rattle.contents.specs.Contents.{offset, cell}
 use Rattle.contents.specs.declared.Entry.{Entry}
 use Rattle.sections.specs.Section.{in_range}
@@ -28,13 +26,11 @@ loop-j-init c = (search rules, rw (starts c, add-zero), refl)
 
 pub read-requires : goal.read-requires
 read-requires c =
-    let s = c in
-    (s.requires.width, omega (arith, s.requires.fits, place_room s.args.k s.args.from c.loop-j-test.true))
+    (c.requires.width, omega (arith, c.requires.fits, place_room c.args.k c.args.from c.loop-j-test.true))
 
 pub overflow_add-p-in-loop-j : goal.overflow_add-p-in-loop-j
 overflow_add-p-in-loop-j c =
-    let s = c in
-    omega (arith, s.requires.fits, place_room s.args.k s.args.from c.loop-j-test.true)
+    omega (arith, c.requires.fits, place_room c.args.k c.args.from c.loop-j-test.true)
 
 pub loop-j-preserved : goal.loop-j-preserved
 unfolding cell

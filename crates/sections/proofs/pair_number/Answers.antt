@@ -1,7 +1,6 @@
 -- `sections::pair_number` meets its contract. Assumes nothing.
 use Prim.Native.Nat.{◌+◌, ◌*◌, ◌≤◌}
 use mathlib.Core.Path.{◌≡◌, ap, ◌∙◌}
-use borrow.Author.Rules.{rules}
 use native.Mathlib.Omega.{arith}
 use lib.ListN.{length}
 use Rattle.mathematics.proofs.Join.{table_below}
@@ -12,15 +11,13 @@ use Rattle.sections.proofs.pair_number.Goals.{After-struct_known-1}
 
 inside : (c : After-struct_known-1) → let a = c.args in a.row.at + 4 * a.week + 4 ≤ length a.s.now
 inside c =
-    let s = c in
-    omega (arith, s.requires.0.at, s.requires.0.holds.fits, table_below s.requires.0.known s.requires.1)
+    omega (arith, c.requires.0.at, c.requires.0.holds.fits, table_below c.requires.0.known c.requires.1)
 
 pub returns : goal.returns
 unfolding cell
 returns c =
-    let s = c in
-    let a = s.args in
-    let e : a.row.at + 4 * a.week ≡ offset a.s.now a.row.section + 4 * (a.row.pair * a.f.weeks + a.week) = omega (arith, s.requires.0.at) in
+    let a = c.args in
+    let e : a.row.at + 4 * a.week ≡ offset a.s.now a.row.section + 4 * (a.row.pair * a.f.weeks + a.week) = omega (arith, c.requires.0.at) in
     (c.read4.ensures.0 ∙ ap (number_at 4 a.s.now) e, c.read4.ensures.1)
 
 pub overflow_add-row : goal.overflow_add-row

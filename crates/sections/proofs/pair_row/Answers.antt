@@ -1,9 +1,8 @@
 -- `sections::pair_row` meets its contract. Assumes nothing.
 use Prim.Native.Nat.{◌*◌, ◌≤◌}
 use mathlib.Core.Path.{◌≡◌, refl, ap}
-use borrow.Author.Rules.{rules}
 use native.Mathlib.Omega.{arith}
-use native.Mathlib.Nat.{mul-le-mul, mul-le-mul_right}
+use native.Mathlib.Nat.{mul-le-mul_right}
 use Rattle.contents.specs.Contents.{offset}
 use Rattle.contents.specs.declared.Entry.{Entry}
 use Rattle.sections.proofs.pair_row.Goals as goal
@@ -13,16 +12,14 @@ use Rattle.sections.proofs.pair_row.Goals.{After-as_usize}
 before_most : (c : After-as_usize) → let a = c.args in
     a.pair * c.as_usize.result ≤ a.f.customers * a.f.products * a.f.weeks
 before_most c =
-    let s = c in
-    rw c.as_usize.ensures.0 (mul-le-mul_right s.args.f.weeks (omega (arith, s.requires.1)))
+    rw c.as_usize.ensures.0 (mul-le-mul_right c.args.f.weeks (omega (arith, c.requires.1)))
 
 starts : (c : After-as_usize) → let a = c.args in c.entry_in-e.result.offset ≡ offset a.s.now a.section
 starts c = ap (λ (x : Entry). x.offset) c.entry_in-e.ensures.0
 
 pub returns : goal.returns
 returns c =
-    let s = c in
-    (record { holds = s.requires.0; known = s.requires.1; at = rw (starts c, c.as_usize.ensures.0) }, refl, refl)
+    (record { holds = c.requires.0; known = c.requires.1; at = rw (starts c, c.as_usize.ensures.0) }, refl, refl)
 
 pub entry_in-e-requires : goal.entry_in-e-requires
 entry_in-e-requires c =

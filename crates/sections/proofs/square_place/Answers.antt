@@ -1,5 +1,4 @@
 -- `sections::square_place` meets its contract. Assumes nothing.
-use borrow.Author.Rules.{rules}
 use native.Mathlib.Omega.{arith}
 use native.Mathlib.Nat.{mul_assoc}
 use mathlib.Core.Path.{◌≡◌}

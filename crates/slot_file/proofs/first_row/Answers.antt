@@ -1,5 +1,4 @@
 -- `slot_file::first_row` meets its contract. Assumes nothing.
-use borrow.Author.Rules.{rules}
 use native.Mathlib.Omega.{arith}
 use mathlib.Core.Path.{refl}
 use Rattle.slot_file.specs.Slots.{slots_before}

@@ -18,9 +18,8 @@ returns-then-e-wide c =
 
 pub slots_before-requires : goal.slots_before-requires
 slots_before-requires c =
-    let s = c in
     let e = ap (λ (x : Entry). x.length) c.entry_in-e.ensures.0 in
-    let h = fits s.args.s.now 3 (placed_facts _ _ s.requires.1) 0 (omega arith) in
+    let h = fits c.args.s.now 3 (placed_facts _ _ c.requires.1) 0 (omega arith) in
     (record { width = width1; listed = omega arith; few = omega arith; fits = omega arith }, search rules)
 
 pub returns : goal.returns

@@ -3,9 +3,6 @@ use borrow.Author.Rules.{rules}
 use native.Mathlib.Omega.{arith}
 use mathlib.Core.Path.{◌≡◌, ◌∙◌}
 use native.Mathlib.Numerals.{add-one}
-use Prim.Native.Nat.{◌≤◌, ◌-◌}
-use lib.Dec.{ltb}
-use Rattle.mathematics.specs.Below.{all_below}
 use Rattle.slot_file.specs.Slots.{slot_at}
 use Rattle.slot_file.proofs.SlotPlaces.{product_at_lem}
 use Rattle.slot_file.proofs.has_products.Goals as goal

@@ -1,13 +1,9 @@
 -- `slot_file::has_products` meets its contract: the loop has tried the slots below `j`. Assumes nothing.
-use borrow.Author.Rules.{rules}
-use native.Mathlib.Omega.{arith}
-use mathlib.Core.Path.{◌≡◌, ◌∙◌}
-use native.Mathlib.Numerals.{add-one}
+use mathlib.Core.Path.{◌≡◌}
 use Prim.Native.Nat.{◌≤◌, ◌-◌}
 use lib.Dec.{ltb}
 use Rattle.mathematics.specs.Below.{all_below}
 use Rattle.slot_file.specs.Slots.{slot_at}
-use Rattle.slot_file.proofs.SlotPlaces.{product_at_lem}
 use Rattle.slot_file.proofs.has_products.Given as goal
 
 abbrev pub invariant-loop-j : goal.invariant-loop-j

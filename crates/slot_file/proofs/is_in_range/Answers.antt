@@ -10,8 +10,7 @@ slots_before-total-requires c = (rw c.as_usize-weeks.ensures.0 (counts_held c.ar
 
 pub in_range-requires : goal.in_range-requires
 in_range-requires c =
-    let s = c in
-    rw (zero-add, c.as_usize-weeks.ensures.0) (counts_held s.args.f _ _ s.requires)
+    rw (zero-add, c.as_usize-weeks.ensures.0) (counts_held c.args.f _ _ c.requires)
 
 pub has_products-requires : goal.has_products-requires
 has_products-requires c =

@@ -1,5 +1,4 @@
 -- `slot_file::pair_sales` meets its contract. Assumes nothing.
-use borrow.Author.Rules.{rules}
 use Rattle.slot_file.proofs.pair_sales.Goals as goal
 
 pub returns : goal.returns

@@ -1,5 +1,4 @@
 -- `slot_file::row_minutes` meets its contract. Assumes nothing.
-use borrow.Author.Rules.{rules}
 use mathlib.Core.Path.{ap, ◌∙◌}
 use Rattle.slot_file.specs.Slots.{Slot}
 use Rattle.slot_file.proofs.row_minutes.Goals as goal

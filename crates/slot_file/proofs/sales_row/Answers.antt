@@ -5,8 +5,7 @@ use Rattle.slot_file.proofs.sales_row.Goals as goal
 
 pub pair_row-requires : goal.pair_row-requires
 pair_row-requires c =
-    let s = c in
-    (sales_held s.args.f _ s.args.s.now (slot_good _ _ _ s.requires.0).laid, s.requires.1)
+    (sales_held c.args.f _ c.args.s.now (slot_good _ _ _ c.requires.0).laid, c.requires.1)
 
 pub returns : goal.returns
 returns c =

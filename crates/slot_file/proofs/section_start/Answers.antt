@@ -2,7 +2,7 @@
 use borrow.Author.Rules.{rules}
 use native.Mathlib.Omega.{arith}
 use mathlib.Core.Path.{◌≡◌, sym}
-use Prim.Native.Nat.{◌≤◌, ◌<◌, ◌-◌, ◌+◌, ◌^◌}
+use Prim.Native.Nat.{◌<◌, ◌+◌, ◌^◌}
 use Rattle.contents.specs.File.{start}
 use Rattle.contents.proofs.Entries.{start_zero, start_next, start_below}
 use Rattle.slot_file.specs.Form.{slot_lengths}

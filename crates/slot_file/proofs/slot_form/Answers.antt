@@ -1,7 +1,6 @@
 -- `slot_file::slot_form` meets its contract: at each place it is known which rows the file has passed. Assumes nothing.
 use borrow.Author.Rules.{rules}
 use mathlib.Core.Path.{◌≡◌, sym, ◌∙◌}
-use borrow.Author.Tests.{not-true, not-false}
 use mathlib.Core.Bool.{true}
 use Rattle.contents.specs.Contents.{headed, placed}
 use Rattle.contents.proofs.Facts.{headed_facts}
@@ -29,33 +28,27 @@ returns-then-not-is_placed c = rw (row21 (goal.at.returns-then-not-is_placed c).
 pub returns-then-not-has_lengths : goal.returns-then-not-has_lengths
 unfolding slot_form
 returns-then-not-has_lengths c =
-    let k = c in
-    rw (row21 (goal.at.returns-then-not-has_lengths k).Else-not-is_headed, row22 (goal.at.returns-then-not-has_lengths k).Else-not-is_placed, sym c.has_lengths.ensures ∙ c.if-not-has_lengths.true)
+    rw (row21 (goal.at.returns-then-not-has_lengths c).Else-not-is_headed, row22 (goal.at.returns-then-not-has_lengths c).Else-not-is_placed, sym c.has_lengths.ensures ∙ c.if-not-has_lengths.true)
 
 laid : (c : Else-not-has_lengths)
     → Laid c.args.s.now (slot_lengths c.args.f (slots_before c.args.s.now c.args.f.weeks))
 laid c =
-    let k = c in
     record {
       few = search rules;
-      long = (headed_facts _ 3 41 3 (sym k.is_headed.ensures ∙ k.if-not-is_headed.false)).long;
-      lies = sym k.is_placed.ensures ∙ k.if-not-is_placed.false;
+      long = (headed_facts _ 3 41 3 (sym c.is_headed.ensures ∙ c.if-not-is_headed.false)).long;
+      lies = sym c.is_placed.ensures ∙ c.if-not-is_placed.false;
       lens = sym c.has_lengths.ensures ∙ c.if-not-has_lengths.false;
     }
 
 pub returns-then-not-is_in_range : goal.returns-then-not-is_in_range
 unfolding slot_form
 returns-then-not-is_in_range c =
-    let d = c in
-    let k = d in
-    rw (row21 (goal.at.returns-then-not-is_in_range k).Else-not-is_headed, row22 (goal.at.returns-then-not-is_in_range k).Else-not-is_placed, (laid (goal.at.returns-then-not-is_in_range d).Else-not-has_lengths).lens, sym c.is_in_range.ensures ∙ c.if-not-is_in_range.true)
+    rw (row21 (goal.at.returns-then-not-is_in_range c).Else-not-is_headed, row22 (goal.at.returns-then-not-is_in_range c).Else-not-is_placed, (laid (goal.at.returns-then-not-is_in_range c).Else-not-has_lengths).lens, sym c.is_in_range.ensures ∙ c.if-not-is_in_range.true)
 
 pub returns : goal.returns
 unfolding slot_form
 returns c =
-    let d = c in
-    let k = d in
-    rw (row21 (goal.at.returns k).Else-not-is_headed, row22 (goal.at.returns k).Else-not-is_placed, (laid (goal.at.returns d).Else-not-has_lengths).lens, sym c.is_in_range.ensures ∙ c.if-not-is_in_range.false)
+    rw (row21 (goal.at.returns c).Else-not-is_headed, row22 (goal.at.returns c).Else-not-is_placed, (laid (goal.at.returns c).Else-not-has_lengths).lens, sym c.is_in_range.ensures ∙ c.if-not-is_in_range.false)
 
 pub is_placed-requires : goal.is_placed-requires
 is_placed-requires c =

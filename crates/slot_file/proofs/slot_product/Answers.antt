@@ -1,5 +1,4 @@
 -- `slot_file::slot_product` meets its contract. Assumes nothing.
-use borrow.Author.Rules.{rules}
 use mathlib.Core.Path.{◌≡◌, ◌∙◌}
 use Rattle.slot_file.specs.Slots.{slot_at}
 use Rattle.slot_file.proofs.SlotPlaces.{product_at_lem}

@@ -1,13 +1,11 @@
 -- `slot_file::slot_row` meets its contract: the loop has stored the slots below `k`. Assumes nothing.
-use Prim.Native.Nat.{ℕ, ◌+◌, ◌-◌, ◌≤◌, ◌<◌}
+use Prim.Native.Nat.{ℕ, ◌+◌, ◌<◌}
 use mathlib.Core.Path.{◌≡◌, refl, ◌∙◌}
 use borrow.Author.Rules.{rules}
 use native.Mathlib.Omega.{arith}
-use lib.ListN.{length, length-set, take}
-use Rattle.mathematics.specs.Below.{list_below}
+use lib.ListN.{length, length-set}
 use Rattle.slot_file.specs.Slots.{Slot, slot_at, slots_before}
 use Rattle.slot_file.proofs.SlotReads.{slot_inside}
-use Rattle.slot_file.specs.Row.{slots_in}
 use Rattle.slot_file.proofs.SlotRows.{slot_eta}
 use Rattle.slot_file.proofs.SlotRows.{slot_stored}
 use Rattle.slot_file.proofs.slot_row.Goals as goal
@@ -21,9 +19,8 @@ known c = omega (arith, c.loop-k-test.true, c.requires.1)
 pub loop-k-preserved : goal.loop-k-preserved
 loop-k-preserved c =
     let turn = c.loop-k in
-    let start = c in
-    let g : ℕ → Slot = λ j. slot_at start.args.s.now (start.args.first + j) in
-    let place : turn.k < length turn.row = omega (arith, turn.invariant.1, c.loop-k-test.true, start.requires.2) in
+    let g : ℕ → Slot = λ j. slot_at c.args.s.now (c.args.first + j) in
+    let place : turn.k < length turn.row = omega (arith, turn.invariant.1, c.loop-k-test.true, c.requires.2) in
     let read = slot_eta (g turn.k) c.slot_product-product.ensures.0 c.slot_minutes.ensures.0 in
     (search rules, length-set turn.row _ _ ∙ turn.invariant.1, slot_stored turn.row turn.k _ g place turn.invariant.2 read)
 

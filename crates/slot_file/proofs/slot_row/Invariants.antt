@@ -1,15 +1,10 @@
 -- `slot_file::slot_row` meets its contract: the loop has stored the slots below `k`. Assumes nothing.
-use Prim.Native.Nat.{ℕ, ◌+◌, ◌-◌, ◌≤◌, ◌<◌}
-use mathlib.Core.Path.{◌≡◌, refl, ◌∙◌}
-use borrow.Author.Rules.{rules}
-use native.Mathlib.Omega.{arith}
-use lib.ListN.{length, length-set, take}
+use Prim.Native.Nat.{◌+◌, ◌-◌, ◌≤◌}
+use mathlib.Core.Path.{◌≡◌}
+use lib.ListN.{length, take}
 use Rattle.mathematics.specs.Below.{list_below}
-use Rattle.slot_file.specs.Slots.{Slot, slot_at, slots_before}
-use Rattle.slot_file.proofs.SlotReads.{slot_inside}
+use Rattle.slot_file.specs.Slots.{slot_at}
 use Rattle.slot_file.specs.Row.{slots_in}
-use Rattle.slot_file.proofs.SlotRows.{slot_eta}
-use Rattle.slot_file.proofs.SlotRows.{slot_stored}
 use Rattle.slot_file.proofs.slot_row.Given as goal
 
 abbrev pub invariant-loop-k : goal.invariant-loop-k

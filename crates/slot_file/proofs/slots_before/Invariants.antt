@@ -1,12 +1,8 @@
 -- `slot_file::slots_before` meets its contract: the loop has added the counts of the weeks below `i`. Assumes nothing.
-use borrow.Author.Rules.{rules}
-use native.Mathlib.Omega.{arith}
-use native.Mathlib.Numerals.{add-one}
-use mathlib.Core.Path.{◌≡◌, refl, ap}
+use mathlib.Core.Path.{◌≡◌}
 use Prim.Native.Nat.{◌≤◌, ◌-◌, ◌+◌, ◌*◌}
-use Rattle.contents.specs.Contents.{offset, cell}
-use Rattle.contents.specs.declared.Entry.{Entry}
-use Rattle.slot_file.specs.Slots.{slot_count, slots_before}
+use Rattle.contents.specs.Contents.{offset}
+use Rattle.slot_file.specs.Slots.{slots_before}
 use Rattle.slot_file.proofs.slots_before.Given as goal
 
 abbrev pub invariant-loop-i : goal.invariant-loop-i

@@ -6,8 +6,7 @@ use Rattle.slot_file.proofs.sold.Goals as goal
 
 pub customer_sum-requires : goal.customer_sum-requires
 customer_sum-requires c =
-    let s = c in
-    (sales_held s.args.f _ s.args.s.now (slot_good _ _ _ s.requires.0).laid, s.requires.2, s.requires.1)
+    (sales_held c.args.f _ c.args.s.now (slot_good _ _ _ c.requires.0).laid, c.requires.2, c.requires.1)
 
 pub returns : goal.returns
 unfolding slots_of

@@ -7,9 +7,8 @@ use Rattle.slot_file.proofs.week_sales.Goals as goal
 pub returns : goal.returns
 unfolding slots_of
 returns c =
-    let s = c in
     let r = c.pair_number.ensures in
-    (r.0 ∙ rw (s.requires.0.section, div-add-mod' s.args.row.pair s.args.f.products), r.1)
+    (r.0 ∙ rw (c.requires.0.section, div-add-mod' c.args.row.pair c.args.f.products), r.1)
 
 pub pair_number-requires : goal.pair_number-requires
 pair_number-requires c =

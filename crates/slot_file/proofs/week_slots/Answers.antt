@@ -1,5 +1,4 @@
 -- `slot_file::week_slots` meets its contract. Assumes nothing.
-use borrow.Author.Rules.{rules}
 use native.Mathlib.Omega.{arith}
 use Rattle.slot_file.proofs.SlotReads.{week_list, week_below}
 use Rattle.slot_file.proofs.week_slots.Goals as goal

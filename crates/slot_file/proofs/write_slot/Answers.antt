@@ -1,5 +1,4 @@
 -- `slot_file::write_slot` meets its contract. Assumes nothing.
-use borrow.Author.Rules.{rules}
 use native.Mathlib.Omega.{arith}
 use mathlib.Core.Path.{ap, ◌∙◌}
 use mathlib.Core.List.{List}
@@ -10,8 +9,7 @@ use Rattle.slot_file.proofs.write_slot.Goals as goal
 
 pub returns : goal.returns
 returns c =
-    let c6 = c in
-    let a = c6.args in
+    let a = c.args in
     c.write-2.ensures
-    ∙ (ap (λ (s : List ℕ). store s 1 (digits 2 a.minutes)) c6.write.ensures
+    ∙ (ap (λ (s : List ℕ). store s 1 (digits 2 a.minutes)) c.write.ensures
     ∙ store_store a.out.now 0 (digits 1 a.product) (digits 2 a.minutes) (omega arith))

@@ -1,8 +1,5 @@
 -- `slot_return::slot_return` meets its contract. Assumes nothing.
-use borrow.Author.Rules.{rules}
-use mathlib.Core.Path.{◌≡◌, sym, ◌∙◌}
-use Rattle.passed_plan.specs.declared.Judgement.TheVariants.{Passed}
-use Rattle.passed_plan.specs.Judgement.{judgement_of}
+use mathlib.Core.Path.{sym}
 use Rattle.passed_plan.proofs.PassedPlan.{judged_passing, passed_plan}
 use Rattle.calls.specs.Answer.{slot_answer}
 use Rattle.calls.proofs.Output.{refused_as}
@@ -10,15 +7,12 @@ use Rattle.slot_return.proofs.slot_return.Goals as goal
 
 pub return_slots-requires : goal.return_slots-requires
 return_slots-requires c =
-    let d = c in
-    let s = d in
-    let p = judged_passing s.args.plant.now s.args.plan.now _ (sym c.in-Passed.ensures) in
-    (passed_plan _ s.args.plant.now s.args.plan.now _ (λ i. (c.type_inv.plan i).fits) p).ordered
+    let p = judged_passing c.args.plant.now c.args.plan.now _ (sym c.in-Passed.ensures) in
+    (passed_plan _ c.args.plant.now c.args.plan.now _ (λ i. (c.type_inv.plan i).fits) p).ordered
 
 pub returns-in-Refused : goal.returns-in-Refused
 unfolding slot_answer
 returns-in-Refused c =
-    let d = c in
     let e = sym c.in-Refused.ensures in
     let r = refused_as (rw e) c.refuse.ensures in record { result = r.0; output = r.1 }
 

@@ -2,9 +2,7 @@
 use borrow.Author.Rules.{rules}
 use native.Mathlib.Omega.{arith}
 use mathlib.Core.Path.{◌≡◌, refl, ◌∙◌}
-use Prim.Native.Nat.{◌≤◌, ◌-◌}
-use lib.ListN.{length}
-use Rattle.numbers.specs.Number.{digits, encode, store}
+use Rattle.numbers.specs.Number.{digits}
 use Rattle.numbers.proofs.Number.{encode_length}
 use Rattle.numbers.proofs.Store.{store_join}
 use Rattle.passed_plan.specs.Shown.{week_count}
@@ -13,14 +11,13 @@ use Rattle.slot_return.proofs.write_counts.Goals as goal
 
 pub loop-week-preserved : goal.loop-week-preserved
 loop-week-preserved c =
-    let b = c in
-    let a = b.args in
+    let a = c.args in
     let n = week_count a.f a.plan.now in (
       search rules,
       search rules,
       c.write.ensures
-          ∙ rw (b.loop-week.invariant.2, c.week_count.ensures.0)
-          (store_join b.loop-week.week (λ w. digits 1 (n w)) a.out.now b.loop-week.week (omega (arith, encode_length 1 b.loop-week.week n))),
+          ∙ rw (c.loop-week.invariant.2, c.week_count.ensures.0)
+          (store_join c.loop-week.week (λ w. digits 1 (n w)) a.out.now c.loop-week.week (omega (arith, encode_length 1 c.loop-week.week n))),
     )
 
 pub returns : goal.returns

@@ -1,14 +1,9 @@
 -- `slot_return::write_counts` meets its contract: the loop has stored the counts of the weeks before `week`. Assumes nothing.
-use borrow.Author.Rules.{rules}
-use native.Mathlib.Omega.{arith}
-use mathlib.Core.Path.{◌≡◌, refl, ◌∙◌}
+use mathlib.Core.Path.{◌≡◌}
 use Prim.Native.Nat.{◌≤◌, ◌-◌}
 use lib.ListN.{length}
-use Rattle.numbers.specs.Number.{digits, encode, store}
-use Rattle.numbers.proofs.Number.{encode_length}
-use Rattle.numbers.proofs.Store.{store_join}
+use Rattle.numbers.specs.Number.{encode, store}
 use Rattle.passed_plan.specs.Shown.{week_count}
-use Rattle.slot_return.proofs.ShownFile.{counts_body}
 use Rattle.slot_return.proofs.write_counts.Given as goal
 
 abbrev pub invariant-loop-week : goal.invariant-loop-week

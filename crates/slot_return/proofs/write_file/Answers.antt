@@ -45,28 +45,22 @@ slice_bounds-write_sales-count c =
 
 pub write_sales-requires : goal.write_sales-requires
 write_sales-requires c =
-    let c9 = c in
-    let a = c9.args in
+    let a = c.args in
     let e = starts a.f a.total in
     (search rules, simp (length-take, length-drop) (omega arith))
 
 pub returns : goal.returns
 returns c =
-    let c4 = c in
-    let c9 = c4 in
-    let c14 = c9 in
-    let c17 = c14 in
-    let s = c17 in
-    let f = s.args.f in
-    let plan = s.args.plan.now in
-    let total = s.args.total in
-    let out = s.args.out.now in
+    let f = c.args.f in
+    let plan = c.args.plan.now in
+    let total = c.args.total in
+    let out = c.args.out.now in
     let e = starts f total in
-    let next = body_next f plan total s.requires.1 in
-    let contents = c17.write_contents.ensures ∙ ap (store out 0) (contents_stored f plan total s.requires.1) in
-    let counts = next 0 _ out _ _ contents c14.section_start-counts.ensures.0 (omega arith) c9.write_counts.ensures in
-    let slots = next 1 _ out _ _ counts c9.section_start-slots.ensures.0 (omega arith) c4.write_weeks.ensures in
-    let sales = next 2 _ out _ _ slots c4.section_start-sales.ensures.0 (omega arith)
+    let next = body_next f plan total c.requires.1 in
+    let contents = c.write_contents.ensures ∙ ap (store out 0) (contents_stored f plan total c.requires.1) in
+    let counts = next 0 _ out _ _ contents c.section_start-counts.ensures.0 (omega arith) c.write_counts.ensures in
+    let slots = next 1 _ out _ _ counts c.section_start-slots.ensures.0 (omega arith) c.write_weeks.ensures in
+    let sales = next 2 _ out _ _ slots c.section_start-sales.ensures.0 (omega arith)
     (c.write_sales.ensures ∙ ap (store _ 0) (sales_body f plan)) in
     sales ∙ ap (store out 0) (file_stored f plan)
 

@@ -3,9 +3,8 @@ use borrow.Author.Rules.{rules}
 use borrow.Rule.Slice.PartMut.{mid_of, put_mid}
 use native.Mathlib.Omega.{arith}
 use mathlib.Core.Path.{◌≡◌, refl, sym, ap, ◌∙◌}
-use Prim.Native.Nat.{◌≤◌, ◌-◌, ◌*◌}
+use Prim.Native.Nat.{◌-◌}
 use lib.ListN.{length}
-use Rattle.mathematics.specs.Below.{join_below}
 use Rattle.numbers.specs.Number.{store}
 use Rattle.numbers.proofs.Store.{store_join, part_store}
 use Rattle.passed_plan.specs.Shown.{week_count}
@@ -14,18 +13,16 @@ use Rattle.slot_return.proofs.write_week.Goals as goal
 
 pub minutes-minutes-requires : goal.minutes-minutes-requires
 minutes-minutes-requires c =
-    let s = c in
-    (search rules, search rules, omega (arith, s.requires.0.known s.args.week c.loop-k.k (omega arith) (omega arith)))
+    (search rules, search rules, omega (arith, c.requires.0.known c.args.week c.loop-k.k (omega arith) (omega arith)))
 
 pub loop-k-preserved : goal.loop-k-preserved
 loop-k-preserved c =
-    let d = c in
-    let b = d.loop-k in
-    let a = d.args in
+    let b = c.loop-k in
+    let a = c.args in
     let f = a.f in
     let s = a.plan.now in
     let n = length b.out - b.p in
-    let slot = slot_bytes_lem f s a.week b.k _ _ d.product_at-product.ensures d.minutes-minutes.ensures.0 in
+    let slot = slot_bytes_lem f s a.week b.k _ _ c.product_at-product.ensures c.minutes-minutes.ensures.0 in
     let whole =
     ap (put_mid b.p n b.out) (c.write_slot.ensures ∙ ap (store (mid_of b.p n b.out) 0) slot)
     ∙ part_store b.out b.p (slot_of f s a.week b.k) (omega arith) in (

@@ -1,15 +1,10 @@
 -- `slot_return::write_week` meets its contract: the loop has stored the week's slots before `k`. Assumes nothing.
-use borrow.Author.Rules.{rules}
-use borrow.Rule.Slice.PartMut.{mid_of, put_mid}
-use native.Mathlib.Omega.{arith}
-use mathlib.Core.Path.{◌≡◌, refl, sym, ap, ◌∙◌}
+use mathlib.Core.Path.{◌≡◌}
 use Prim.Native.Nat.{◌≤◌, ◌-◌, ◌*◌}
 use lib.ListN.{length}
 use Rattle.mathematics.specs.Below.{join_below}
 use Rattle.numbers.specs.Number.{store}
-use Rattle.numbers.proofs.Store.{store_join, part_store}
-use Rattle.passed_plan.specs.Shown.{week_count}
-use Rattle.slot_return.proofs.ShownFile.{slot_of, slot_bytes_lem, places_length, week_bytes}
+use Rattle.slot_return.proofs.ShownFile.{slot_of}
 use Rattle.slot_return.proofs.write_week.Given as goal
 
 abbrev pub invariant-loop-k : goal.invariant-loop-k

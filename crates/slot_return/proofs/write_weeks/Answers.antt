@@ -7,8 +7,6 @@ use mathlib.Core.Path.{◌≡◌, refl, sym, ap, ◌∙◌}
 use mathlib.Core.List.{List}
 use Prim.Native.Nat.{ℕ, ◌≤◌, ◌-◌, ◌+◌, ◌*◌}
 use lib.ListN.{length, length-take, length-drop}
-use Rattle.mathematics.specs.Below.{sum_below, join_below}
-use Rattle.numbers.specs.Number.{store}
 use Rattle.numbers.proofs.Store.{store_join, part_store}
 use Rattle.slot_file.specs.File.{slot_bytes, slot_bodies}
 use Rattle.passed_plan.specs.Shown.{week_count, week_slots}

@@ -1,18 +1,11 @@
 -- `slot_return::write_weeks` meets its contract: the loop has stored the slots of the weeks before `week`. Assumes nothing.
-use borrow.Author.Rules.{rules}
-use borrow.Rule.Slice.PartMut.{put_mid}
-use native.Mathlib.Omega.{arith}
-use native.Mathlib.Numerals.{add-one}
-use mathlib.Core.Path.{◌≡◌, refl, sym, ap, ◌∙◌}
-use mathlib.Core.List.{List}
-use Prim.Native.Nat.{ℕ, ◌≤◌, ◌-◌, ◌+◌, ◌*◌}
-use lib.ListN.{length, length-take, length-drop}
+use mathlib.Core.Path.{◌≡◌}
+use Prim.Native.Nat.{◌≤◌, ◌-◌, ◌*◌}
+use lib.ListN.{length}
 use Rattle.mathematics.specs.Below.{sum_below, join_below}
 use Rattle.numbers.specs.Number.{store}
-use Rattle.numbers.proofs.Store.{store_join, part_store}
-use Rattle.slot_file.specs.File.{slot_bytes, slot_bodies}
+use Rattle.slot_file.specs.File.{slot_bytes}
 use Rattle.passed_plan.specs.Shown.{week_count, week_slots}
-use Rattle.slot_return.proofs.ShownFile.{weeks_room, weeks_length}
 use Rattle.slot_return.proofs.write_weeks.Given as goal
 
 abbrev pub invariant-loop-week : goal.invariant-loop-week

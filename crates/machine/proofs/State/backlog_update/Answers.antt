@@ -1,17 +1,15 @@
 -- `machine::State::backlog_update` meets its contract: the loop has tried, stored and added the pairs below `pair`. Assumes nothing.
-use Prim.Native.Nat.{◌+◌, ◌*◌, ◌-◌, ◌^◌, ◌<◌, ◌≤◌}
+use Prim.Native.Nat.{◌+◌, ◌*◌, ◌<◌, ◌≤◌}
 use mathlib.Core.Path.{◌≡◌, refl}
 use borrow.Author.Rules.{rules}
 use native.Mathlib.Omega.{arith}
 use native.Mathlib.Numerals.{add-one}
 use lib.ListN.{get_or}
-use Rattle.mathematics.specs.Below.{sum_below, all_below}
-use Rattle.sections.specs.Limits.{most_demand, most_unit_cost, most_backlog}
+use Rattle.sections.specs.Limits.{most_demand, most_backlog}
 use Rattle.plant_file.specs.Plant.{plant_of}
-use Rattle.machine.specs.State.{update_row}
 use Rattle.machine.specs.Files.{week_of_files}
 use Rattle.machine.proofs.Plants.{counts}
-use Rattle.machine.proofs.PairTables.{due_at, backlog_at, revenue_at, new_charge_at, due_flat, revenue_flat, backlog_new, charge_new}
+use Rattle.machine.proofs.PairTables.{backlog_at, due_flat, revenue_flat, backlog_new, charge_new}
 use Rattle.machine.proofs.Stores.{cell_next, cell_stored}
 use Rattle.machine.proofs.State.backlog_update.Goals as goal
 use Rattle.machine.proofs.State.backlog_update.Goals.{After-less-left, After-pair_demand, In-loop-pair}
@@ -48,9 +46,7 @@ left : (c : After-less-left) → let turn = c.loop-pair in
     c.less-left.result.0 ≡ backlog_at a.f.products (week_of_files a.f a.plant.now a.slots.now a.week) turn.pair
     (get_or a.self.backlog turn.pair 0)
 left c =
-    let sales = c in
-    let demand = sales in
-    rw (c.less-left.ensures, cell_next _ _ _ _ c.loop-pair.invariant.1, demand.pair_demand.ensures.0, sales.pair_sales.ensures.0)
+    rw (c.less-left.ensures, cell_next _ _ _ _ c.loop-pair.invariant.1, c.pair_demand.ensures.0, c.pair_sales.ensures.0)
 
 left_most : (c : After-less-left) → c.less-left.result.0 ≤ most_backlog
 left_most c =
@@ -66,49 +62,37 @@ left_most c =
 
 pub overflow_add-revenue : goal.overflow_add-revenue
 overflow_add-revenue c =
-    let bought = c in
-    let sales = bought in
-    let test = sales in
-    omega (arith, bought.charge-bought.ensures.1, sales.pair_sales.ensures.1, test.loop-pair.invariant.4, place (goal.at.overflow_add-revenue test).In-loop-pair)
+    omega (arith, c.charge-bought.ensures.1, c.pair_sales.ensures.1, c.loop-pair.invariant.4, place (goal.at.overflow_add-revenue c).In-loop-pair)
 
 pub overflow_add-cost : goal.overflow_add-cost
 overflow_add-cost c =
-    let late = c in
-    let done = late in
-    let test = done in
-    omega (arith, late.charge-late.ensures.1, left_most (goal.at.overflow_add-cost done).After-less-left, test.loop-pair.invariant.6, place (goal.at.overflow_add-cost test).In-loop-pair)
+    omega (arith, c.charge-late.ensures.1, left_most (goal.at.overflow_add-cost c).After-less-left, c.loop-pair.invariant.6, place (goal.at.overflow_add-cost c).In-loop-pair)
 
 pub loop-pair-preserved : goal.loop-pair-preserved
 loop-pair-preserved c =
-    let late = c in
-    let bought = late in
-    let done = bought in
-    let sales = done in
-    let demand = sales in
-    let b = demand.loop-pair in (
+    let b = c.loop-pair in (
       search rules,
-      cell_stored _ _ _ _ b.invariant.1 _ (left (goal.at.loop-pair-preserved done).After-less-left),
-      rw (add-one, done.and-due.ensures, b.invariant.2, same (goal.at.loop-pair-preserved demand).In-loop-pair, sales.pair_sales.ensures.0, demand.pair_demand.ensures.0),
-      rw (add-one, ← sales.pair_sales.ensures.0, ← bought.pair_price.ensures.0) (omega (arith, b.invariant.3, bought.charge-bought.ensures.0)),
-      omega (arith, b.invariant.4, bought.charge-bought.ensures.1, sales.pair_sales.ensures.1),
-      rw (add-one, ← (left (goal.at.loop-pair-preserved done).After-less-left), ← late.pair_backlog_cost.ensures.0) (omega (arith, b.invariant.5, late.charge-late.ensures.0)),
-      omega (arith, b.invariant.6, late.charge-late.ensures.1, left_most (goal.at.loop-pair-preserved done).After-less-left),
+      cell_stored _ _ _ _ b.invariant.1 _ (left (goal.at.loop-pair-preserved c).After-less-left),
+      rw (add-one, c.and-due.ensures, b.invariant.2, same (goal.at.loop-pair-preserved c).In-loop-pair, c.pair_sales.ensures.0, c.pair_demand.ensures.0),
+      rw (add-one, ← c.pair_sales.ensures.0, ← c.pair_price.ensures.0) (omega (arith, b.invariant.3, c.charge-bought.ensures.0)),
+      omega (arith, b.invariant.4, c.charge-bought.ensures.1, c.pair_sales.ensures.1),
+      rw (add-one, ← (left (goal.at.loop-pair-preserved c).After-less-left), ← c.pair_backlog_cost.ensures.0) (omega (arith, b.invariant.5, c.charge-late.ensures.0)),
+      omega (arith, b.invariant.6, c.charge-late.ensures.1, left_most (goal.at.loop-pair-preserved c).After-less-left),
     )
 
 pub returns : goal.returns
 returns c =
-    let start = c in
-    let a = start.args in
+    let a = c.args in
     let P = plant_of a.f a.plant.now in
     let v = week_of_files a.f a.plant.now a.slots.now a.week in
     let b = c.loop-pair in
-    let n = (counts _ _ start.requires.0.plant_good).pairs in
+    let n = (counts _ _ c.requires.0.plant_good).pairs in
     let e : b.pair ≡ a.f.customers * a.f.products = omega (arith, c.loop-pair-test.false, b.invariant.0, c.area-pairs.ensures.0) in
     record {
       backlog = rw (backlog_new P v a.self, ← e) b.invariant.1;
       due = rw (due_flat P v a.self, ← e) b.invariant.2;
       revenue = rw (revenue_flat P v a.self, ← e) b.invariant.3;
-      charge = rw (charge_new P v a.self (omega (arith, start.requires.1.backlog_long, n)), ← e) b.invariant.5;
+      charge = rw (charge_new P v a.self (omega (arith, c.requires.1.backlog_long, n)), ← e) b.invariant.5;
       revenue_most = omega (arith, b.invariant.4, n);
       charge_most = omega (arith, b.invariant.6, n);
     }

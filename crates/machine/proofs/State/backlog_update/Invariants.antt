@@ -1,18 +1,12 @@
 -- `machine::State::backlog_update` meets its contract: the loop has tried, stored and added the pairs below `pair`. Assumes nothing.
-use Prim.Native.Nat.{◌+◌, ◌*◌, ◌-◌, ◌^◌, ◌<◌, ◌≤◌}
-use mathlib.Core.Path.{◌≡◌, refl}
-use borrow.Author.Rules.{rules}
-use native.Mathlib.Omega.{arith}
-use native.Mathlib.Numerals.{add-one}
-use lib.ListN.{get_or}
+use Prim.Native.Nat.{◌*◌, ◌-◌, ◌^◌, ◌≤◌}
+use mathlib.Core.Path.{◌≡◌}
 use Rattle.mathematics.specs.Below.{sum_below, all_below}
-use Rattle.sections.specs.Limits.{most_demand, most_unit_cost, most_backlog}
+use Rattle.sections.specs.Limits.{most_unit_cost, most_backlog}
 use Rattle.plant_file.specs.Plant.{plant_of}
 use Rattle.machine.specs.State.{update_row}
 use Rattle.machine.specs.Files.{week_of_files}
-use Rattle.machine.proofs.Plants.{counts}
-use Rattle.machine.proofs.PairTables.{due_at, backlog_at, revenue_at, new_charge_at, due_flat, revenue_flat, backlog_new, charge_new}
-use Rattle.machine.proofs.Stores.{cell_next, cell_stored}
+use Rattle.machine.proofs.PairTables.{due_at, backlog_at, revenue_at, new_charge_at}
 use Rattle.machine.proofs.State.backlog_update.Given as goal
 
 abbrev pub invariant-loop-pair : goal.invariant-loop-pair

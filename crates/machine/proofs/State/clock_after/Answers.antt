@@ -1,5 +1,4 @@
 -- `machine::State::clock_after` meets its contract. Assumes nothing.
-use borrow.Author.Rules.{rules}
 use Rattle.machine.specs.Machine.{clock_after}
 use Rattle.machine.proofs.State.clock_after.Goals as goal
 

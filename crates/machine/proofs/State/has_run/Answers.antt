@@ -1,5 +1,4 @@
 -- `machine::State::has_run` meets its contract. Assumes nothing.
-use borrow.Author.Rules.{rules}
 use mathlib.Core.Path.{refl}
 use Rattle.machine.specs.State.{has_run}
 use Rattle.machine.proofs.State.has_run.Goals as goal

@@ -1,18 +1,11 @@
 -- `machine::State::inventory_update` meets its contract: the loop has tried, stored and added the products below `product`. Assumes nothing.
-use Prim.Native.Nat.{◌+◌, ◌*◌, ◌-◌, ◌<◌, ◌≤◌}
-use mathlib.Core.Path.{◌≡◌, refl, ◌∙◌}
-use borrow.Author.Rules.{rules}
-use native.Mathlib.Omega.{arith}
-use native.Mathlib.Numerals.{add-one}
-use lib.ListN.{length, get_or}
+use Prim.Native.Nat.{◌*◌, ◌-◌, ◌≤◌}
+use mathlib.Core.Path.{◌≡◌}
 use Rattle.mathematics.specs.Below.{sum_below, all_below}
-use Rattle.sections.specs.Limits.{most_rate, most_storage, most_week_minutes}
 use Rattle.plant_file.specs.Plant.{plant_of}
-use Rattle.machine.specs.State.{inventory_of, update_row}
+use Rattle.machine.specs.State.{update_row}
 use Rattle.machine.specs.Files.{week_of_files}
-use Rattle.machine.proofs.Plants.{counts}
-use Rattle.machine.proofs.ProductTables.{inventory_at, in_stock_at, kept_at, new_charge_at, in_stock_all, inventory_all, kept_all, charge_all}
-use Rattle.machine.proofs.Stores.{cell_next, cell_stored}
+use Rattle.machine.proofs.ProductTables.{inventory_at, in_stock_at, kept_at, new_charge_at}
 use Rattle.machine.proofs.State.inventory_update.Given as goal
 
 abbrev pub invariant-loop-product : goal.invariant-loop-product

@@ -1,7 +1,6 @@
 -- `machine::State::run_week` meets its contract. Assumes nothing.
 use mathlib.Core.Path.{◌≡◌, sym, ap, ◌∙◌}
 use native.Mathlib.Omega.{arith}
-use borrow.Author.Rules.{rules}
 use Rattle.plant_file.specs.Plant.{plant_of}
 use Rattle.slot_file.specs.Slots.{slots_of}
 use Rattle.slot_file.proofs.SlotReads.{slots_fit}
@@ -24,13 +23,11 @@ ran c =
 
 pub week_end-requires : goal.week_end-requires
 week_end-requires c =
-    let known = c in
-    let s = known in
-    let p = s.requires.0 in
-    let fit = slots_fit s.args.f s.args.slots.now p.slots_good (λ i. omega (arith, c.type_inv.slots i)) in
+    let p = c.requires.0 in
+    let fit = slots_fit c.args.f c.args.slots.now p.slots_good (λ i. omega (arith, c.type_inv.slots i)) in
     let r = c.run_slots-r.result in
     let goes = sym (ran (goal.at.week_end-requires c).After-run_slots-r) ∙ continued_step r c.in_default.is in
-    (p, week_slots_kept _ _ p.plant_good _ fit p.week_known s.requires.1 r.state goes)
+    (p, week_slots_kept _ _ p.plant_good _ fit p.week_known c.requires.1 r.state goes)
 
 pub run_slots-r-requires : goal.run_slots-r-requires
 run_slots-r-requires c =

@@ -2,7 +2,6 @@
 use Prim.Native.Nat.{◌+◌, ◌*◌, ◌%◌, ◌^◌, ◌≤◌}
 use mathlib.Core.Path.{◌≡◌}
 use native.Mathlib.Omega.{arith}
-use borrow.Author.Rules.{rules}
 use Rattle.machine.specs.State.{inventory_of, with_inventory, with_line, with_week, with_profit, with_mounted}
 use Rattle.machine.specs.Machine.{slot_done}
 use Rattle.machine.proofs.Plants.{counts}
@@ -23,26 +22,22 @@ shifted c = omega (arith, power c)
 
 pub overflow_add-inventory : goal.overflow_add-inventory
 unfolding inventory_of
-overflow_add-inventory c = let start = c in omega (arith, start.requires.3.inventory_most _ start.requires.1)
+overflow_add-inventory c = omega (arith, c.requires.3.inventory_most _ c.requires.1)
 
 pub overflow_add-ran : goal.overflow_add-ran
-overflow_add-ran c = let s = c in omega (arith, shifted (goal.at.overflow_add-ran s).Start, power (goal.at.overflow_add-ran s).Start, s.requires.3.ran_most)
+overflow_add-ran c = omega (arith, shifted (goal.at.overflow_add-ran c).Start, power (goal.at.overflow_add-ran c).Start, c.requires.3.ran_most)
 
 pub returns : goal.returns
 unfolding slot_done inventory_of with_inventory with_line with_week with_profit with_mounted
 returns c =
-    let clocked = c in
-    let made = clocked in
-    let over = made in
-    let start = c in
     rw (
-      shifted (goal.at.returns start).Start,
-      ← clocked.clock_after-clock.ensures,
-      ← over.changeover_to-over.ensures.cents,
+      shifted (goal.at.returns c).Start,
+      ← c.clock_after-clock.ensures,
+      ← c.changeover_to-over.ensures.cents,
       ← c.in_thousandths.ensures,
       ← c.pay-profit.ensures.0,
     )
-    (rw (← made.rate.ensures.0, ← made.produced-grams.ensures.0))
+    (rw (← c.rate.ensures.0, ← c.produced-grams.ensures.0))
 
 pub bounds-inventory-product : goal.bounds-inventory-product
 bounds-inventory-product c =

@@ -2,7 +2,6 @@
 use mathlib.Core.Path.{◌≡◌, sym, ◌∙◌}
 use mathlib.Core.List.{[], ◌∷◌}
 use native.Mathlib.Omega.{arith}
-use borrow.Author.Rules.{rules}
 use borrow.Author.Tests.{lt-ltb, le-ltb}
 use lib.Dec.{ltb}
 use Rattle.plant_file.specs.Plant.{Plant, plant_of}
@@ -20,11 +19,10 @@ returns-then-has_run c = rw (sym c.has_run.ensures ∙ c.if-has_run.true)
 pub returns-then-time-shortest_run : goal.returns-then-time-shortest_run
 unfolding slot_stops
 returns-then-time-shortest_run c =
-    let tried = c in
-    let a = tried.args in
+    let a = c.args in
     let P = plant_of a.f a.plant.now in
     rw (
-      sym tried.has_run.ensures ∙ tried.if-has_run.false,
+      sym c.has_run.ensures ∙ c.if-has_run.false,
       lt-ltb a.time.0 P.shortest_run (omega (arith, c.shortest_run.ensures.0)),
     )
 
@@ -47,20 +45,18 @@ module _ (c : After-week_minutes) where
 
 pub returns-then-week_minutes-clock : goal.returns-then-week_minutes-clock
 returns-then-week_minutes-clock c =
-    let w = c in
     rw (
-      clock_left (goal.at.returns-then-week_minutes-clock w).After-week_minutes,
-      lt-ltb (P (goal.at.returns-then-week_minutes-clock w).After-week_minutes).week_minutes (clock_after (P (goal.at.returns-then-week_minutes-clock w).After-week_minutes).line (slot (goal.at.returns-then-week_minutes-clock w).After-week_minutes) w.args.self)
-          (omega (arith, w.clock_after-clock.ensures, w.week_minutes.ensures.0)),
+      clock_left (goal.at.returns-then-week_minutes-clock c).After-week_minutes,
+      lt-ltb (P (goal.at.returns-then-week_minutes-clock c).After-week_minutes).week_minutes (clock_after (P (goal.at.returns-then-week_minutes-clock c).After-week_minutes).line (slot (goal.at.returns-then-week_minutes-clock c).After-week_minutes) c.args.self)
+          (omega (arith, c.clock_after-clock.ensures, c.week_minutes.ensures.0)),
     )
 
 pub returns : goal.returns
 returns c =
-    let w = c in
     rw (
-      clock_left (goal.at.returns w).After-week_minutes,
-      le-ltb (P (goal.at.returns w).After-week_minutes).week_minutes (clock_after (P (goal.at.returns w).After-week_minutes).line (slot (goal.at.returns w).After-week_minutes) w.args.self)
-          (omega (arith, w.clock_after-clock.ensures, w.week_minutes.ensures.0)),
+      clock_left (goal.at.returns c).After-week_minutes,
+      le-ltb (P (goal.at.returns c).After-week_minutes).week_minutes (clock_after (P (goal.at.returns c).After-week_minutes).line (slot (goal.at.returns c).After-week_minutes) c.args.self)
+          (omega (arith, c.clock_after-clock.ensures, c.week_minutes.ensures.0)),
     )
 
 pub has_run-requires : goal.has_run-requires

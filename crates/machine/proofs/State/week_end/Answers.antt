@@ -2,7 +2,6 @@
 use Prim.Native.Nat.{◌≤◌}
 use mathlib.Core.Path.{◌≡◌, sym, ap, ◌∙◌}
 use native.Mathlib.Omega.{arith}
-use borrow.Author.Rules.{rules}
 use lib.Signed.{mag}
 use Rattle.plant_file.specs.Plant.{plant_of}
 use Rattle.machine.specs.State.{continues, first_met}
@@ -39,17 +38,15 @@ tested c =
     rw (← carried.due, ← sold.in_stock, ← sold.kept) c.week_outcome-outcome.ensures
 
 pub returns-in-Stops : goal.returns-in-Stops
-returns-in-Stops c = let d = c in week_stops_lem _ _ _ _ (tested (goal.at.returns-in-Stops d).After-week_outcome-outcome) _ c.in-Stops.is
+returns-in-Stops c = week_stops_lem _ _ _ _ (tested (goal.at.returns-in-Stops c).After-week_outcome-outcome) _ c.in-Stops.is
 
 pub returns : goal.returns
 returns c =
-    let paid = c in
-    let d = paid in
-    let carried = d.backlog_update-carried.ensures in
-    let sold = d.inventory_update-sold.ensures in
+    let carried = c.backlog_update-carried.ensures in
+    let sold = c.inventory_update-sold.ensures in
     ap continues
-    (week_parts _ _ _ _ _ _ carried sold (rw (paid.pay-profit.ensures.0, paid.pay.ensures.0, paid.gain.ensures.0)))
-    ∙ sym (week_continues _ _ _ _ (tested (goal.at.returns d).After-week_outcome-outcome) paid.in_default.is)
+    (week_parts _ _ _ _ _ _ carried sold (rw (c.pay-profit.ensures.0, c.pay.ensures.0, c.gain.ensures.0)))
+    ∙ sym (week_continues _ _ _ _ (tested (goal.at.returns c).After-week_outcome-outcome) c.in_default.is)
 
 pub backlog_update-carried-requires : goal.backlog_update-carried-requires
 backlog_update-carried-requires c =

@@ -1,5 +1,4 @@
 -- `plan_writing::mounted_after` meets its contract. Assumes nothing.
-use borrow.Author.Rules.{rules}
 use native.Mathlib.Omega.{arith}
 use mathlib.Core.Path.{◌≡◌, refl, ap, ◌∙◌}
 use mathlib.Core.List.{List, [], ◌∷◌}
@@ -11,9 +10,8 @@ use Rattle.costs.specs.declared.Mounted.{Mounted}
 use Rattle.costs.specs.declared.Mounted.TheVariants.{Product}
 use Rattle.model.specs.RunTables.{last_of}
 use Rattle.plan_writing.specs.Ran.{slots_in}
-use Rattle.plan_writing.proofs.WeekRows.{order_size, product_at}
-use Rattle.plan_writing.proofs.mounted_after.Statement.{statement}
-use Rattle.plan_writing.proofs.mounted_after.Tie as tie
+use Rattle.plan_writing.proofs.WeekRows.{order_size, product_at_lem}
+use Rattle.plan_writing.proofs.mounted_after.Goals as goal
 
 -- after some products the last is mounted
 last_mounted : (m : Mounted) (ps : List ℕ) (n : ℕ) → length ps ≡ suc n → Product (order_at ps n) ≡ last_of m ps
@@ -28,25 +26,18 @@ none_mounted : (m : Mounted) (ps : List ℕ) → length ps ≡ 0 → m ≡ last_
 none_mounted m [] e = refl
 none_mounted m (p ∷ ps) e = absurd (omega arith)
 
-returns : tie.Need-returns
+pub returns-then-total-eq0 : goal.returns-then-total-eq0
+returns-then-total-eq0 c =
+    let a = c.args in
+    none_mounted a.mounted (order_of_slots (slots_in a.f a.slots.now a.row)) (order_size c.requires.0 ∙ c.if-total-eq0.true)
+
+pub returns : goal.returns
 returns c =
-    let s = c.before.before in
-    none_mounted s.args.mounted (order_of_slots (slots_in s.args.f s.args.slots.now s.args.row)) (order_size s.requires.0 ∙ c.if1.true)
-
-returns-2 : tie.Need-returns-2
-returns-2 c =
-    let s = c.before.before.before in
-    let a = s.args in
+    let a = c.args in
     let ps = order_of_slots (slots_in a.f a.slots.now a.row) in
-    ap Product (product_at s.requires.0 (a.row.count - 1) c.row-product.ensures.0)
-    ∙ last_mounted a.mounted ps (a.row.count - 1) (omega (arith, order_size s.requires.0, c.before.if1.false))
+    ap Product (product_at_lem c.requires.0 (a.row.count - 1) c.row_product-product.ensures.0)
+    ∙ last_mounted a.mounted ps (a.row.count - 1) (omega (arith, order_size c.requires.0, c.if-total-eq0.false))
 
-pub mounted-after-spec : {M : Type 1} → statement M
-mounted-after-spec =
-    tie.close
-    (tie.spec
-    returns
-    (λ c. search rules)
-    (λ c κs. (c.before.before.requires.0.row_of, c.before.before.requires.0.week, omega (arith, c.if1.false)))
-    (λ c. search rules)
-    returns-2)
+pub row_product-product-requires : goal.row_product-product-requires
+row_product-product-requires c =
+    (c.requires.0.row_of, c.requires.0.week, omega (arith, c.if-total-eq0.false))

@@ -1,4 +1,6 @@
 // A client of checking, slot return and plan writing: a plan that passes, its slots, and the plan back from them.
+#![tactic(auto)]
+
 ghost use Rattle.std.specs.Prelude.{◌≡◌};
 ghost use Rattle.calls.specs.Check.{check_of};
 ghost use Rattle.calls.specs.Answer.{slot_answer, written_in, output_after};
@@ -10,13 +12,13 @@ use slot_return::slot_return;
 use units::Profit;
 
 // The plan file that came back: its length and its profit.
-#[derive(Drop)]
+#[derive(Clone, Copy)]
 pub struct Back {
     pub length: usize,
     pub profit: Profit,
 }
 
-#[derive(Drop)]
+#[derive(Clone, Copy)]
 pub enum RoundTrip {
     Returned(Back),
     Refused(u32),

@@ -28,8 +28,10 @@ unfolding opening_mounted
 returns c =
     let a = c.args in
     let m = (plant_of a.f a.plant.now).line.mounted in
-    let r = c.mounted-product.ensures.0 in
-    (rw (ne_eqb m nothing_mounted (λ e. c.if-product-eq-NOTHING_MOUNTED.false (omega (arith, r, e)))) (ap Product r), product_below (goal.at.returns c).Else-product-eq-NOTHING_MOUNTED)
+    let r = c.mounted-product.ensures.0 in (
+      rw (ne_eqb m nothing_mounted (λ e. c.if-product-eq-NOTHING_MOUNTED.false (omega (arith, r, e)))) (ap Product r),
+      product_below (goal.at.returns c).Else-product-eq-NOTHING_MOUNTED,
+    )
 
 pub overflow_cast-result : goal.overflow_cast-result
 overflow_cast-result c =

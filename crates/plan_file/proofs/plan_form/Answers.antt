@@ -35,17 +35,31 @@ returns-then-not-is_placed c = rw (row11 (goal.at.returns-then-not-is_placed c).
 pub returns-then-not-has_lengths : goal.returns-then-not-has_lengths
 unfolding plan_form
 returns-then-not-has_lengths c =
-    rw (row11 (goal.at.returns-then-not-has_lengths c).Else-not-is_headed, row12 (goal.at.returns-then-not-has_lengths c).Else-not-is_placed, sym c.has_lengths.ensures ∙ c.if-not-has_lengths.true)
+    rw (
+      row11 (goal.at.returns-then-not-has_lengths c).Else-not-is_headed,
+      row12 (goal.at.returns-then-not-has_lengths c).Else-not-is_placed,
+      sym c.has_lengths.ensures ∙ c.if-not-has_lengths.true,
+    )
 
 pub returns-then-not-is_binary : goal.returns-then-not-is_binary
 unfolding plan_form
 returns-then-not-is_binary c =
-    rw (row11 (goal.at.returns-then-not-is_binary c).Else-not-is_headed, row12 (goal.at.returns-then-not-is_binary c).Else-not-is_placed, row13 (goal.at.returns-then-not-is_binary c).Else-not-has_lengths, sym c.is_binary.ensures ∙ c.if-not-is_binary.true)
+    rw (
+      row11 (goal.at.returns-then-not-is_binary c).Else-not-is_headed,
+      row12 (goal.at.returns-then-not-is_binary c).Else-not-is_placed,
+      row13 (goal.at.returns-then-not-is_binary c).Else-not-has_lengths,
+      sym c.is_binary.ensures ∙ c.if-not-is_binary.true,
+    )
 
 pub returns : goal.returns
 unfolding plan_form
 returns c =
-    rw (row11 (goal.at.returns c).Else-not-is_headed, row12 (goal.at.returns c).Else-not-is_placed, row13 (goal.at.returns c).Else-not-has_lengths, sym c.is_binary.ensures ∙ c.if-not-is_binary.false)
+    rw (
+      row11 (goal.at.returns c).Else-not-is_headed,
+      row12 (goal.at.returns c).Else-not-is_placed,
+      row13 (goal.at.returns c).Else-not-has_lengths,
+      sym c.is_binary.ensures ∙ c.if-not-is_binary.false,
+    )
 
 pub is_binary-requires : goal.is_binary-requires
 is_binary-requires c =

@@ -26,7 +26,11 @@ loop-i-init c = (search rules, omega (arith, start_zero c.body_lengths-lengths.r
 
 pub overflow_add-at : goal.overflow_add-at
 overflow_add-at c =
-    omega (arith, start_next c.body_lengths-lengths.result c.loop-i.i, small (goal.at.overflow_add-at c).After-body_lengths-lengths (c.loop-i.i + 1) (omega (arith, c.requires)))
+    omega (
+      arith,
+      start_next c.body_lengths-lengths.result c.loop-i.i,
+      small (goal.at.overflow_add-at c).After-body_lengths-lengths (c.loop-i.i + 1) (omega (arith, c.requires)),
+    )
 
 pub loop-i-preserved : goal.loop-i-preserved
 loop-i-preserved c = (search rules, omega (arith, c.loop-i.invariant.1, start_next c.body_lengths-lengths.result c.loop-i.i))
@@ -34,8 +38,10 @@ loop-i-preserved c = (search rules, omega (arith, c.loop-i.invariant.1, start_ne
 pub returns : goal.returns
 returns c =
     let e : c.loop-i.i ≡ c.args.place = omega arith in
-    let at = c.loop-i.invariant.1 in
-    (at ∙ (λ u. start (c.body_lengths-lengths.ensures u) (e u)), rw at (small (goal.at.returns c).After-body_lengths-lengths c.loop-i.i (omega (arith, c.requires))))
+    let at = c.loop-i.invariant.1 in (
+      at ∙ (λ u. start (c.body_lengths-lengths.ensures u) (e u)),
+      rw at (small (goal.at.returns c).After-body_lengths-lengths c.loop-i.i (omega (arith, c.requires))),
+    )
 
 pub bounds-lengths-i : goal.bounds-lengths-i
 bounds-lengths-i c =

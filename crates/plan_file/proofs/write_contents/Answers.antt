@@ -10,8 +10,10 @@ use Rattle.plan_file.proofs.Lengths.{listable}
 use Rattle.plan_file.proofs.write_contents.Goals as goal
 
 pub write_contents-requires : goal.write_contents-requires
-write_contents-requires c =
-    (rw c.body_lengths-lengths.ensures (listable c.args.f (omega arith, omega arith, omega arith)), omega (arith, ap length c.body_lengths-lengths.ensures, c.requires))
+write_contents-requires c = (
+  rw c.body_lengths-lengths.ensures (listable c.args.f (omega arith, omega arith, omega arith)),
+  omega (arith, ap length c.body_lengths-lengths.ensures, c.requires),
+)
 
 pub returns : goal.returns
 returns c =

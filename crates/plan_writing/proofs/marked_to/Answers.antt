@@ -9,7 +9,11 @@ returns-then-place-eq-FIRST_MADE c = rw (eq-eqb _ _ c.if-place-eq-FIRST_MADE.tru
 
 pub returns-then-place-eq-WEEK_CHANGEOVER : goal.returns-then-place-eq-WEEK_CHANGEOVER
 unfolding marked_to
-returns-then-place-eq-WEEK_CHANGEOVER c = rw (ne_eqb _ _ c.if-place-eq-FIRST_MADE.false, eq-eqb _ _ c.if-place-eq-WEEK_CHANGEOVER.true) c.some_mounted.ensures
+returns-then-place-eq-WEEK_CHANGEOVER c =
+    rw (
+      ne_eqb _ _ c.if-place-eq-FIRST_MADE.false,
+      eq-eqb _ _ c.if-place-eq-WEEK_CHANGEOVER.true,
+    ) c.some_mounted.ensures
 
 pub returns : goal.returns
 unfolding marked_to

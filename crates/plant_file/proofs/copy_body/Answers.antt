@@ -46,5 +46,7 @@ returns c =
     ∙ sym (body_is c.args.f c.args.s.now bytes c.requires.0 c.args.place c.requires.1))
 
 pub copy_section-requires : goal.copy_section-requires
-copy_section-requires c =
-    (held (goal.at.copy_section-requires c).After-entry_in-e, omega (arith, length_is (goal.at.copy_section-requires c).After-entry_in-e, c.requires.2))
+copy_section-requires c = (
+  held (goal.at.copy_section-requires c).After-entry_in-e,
+  omega (arith, length_is (goal.at.copy_section-requires c).After-entry_in-e, c.requires.2),
+)

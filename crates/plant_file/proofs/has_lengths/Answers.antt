@@ -16,7 +16,10 @@ first c = first_lengths c.args.f _ _ c.plant_kind-k.ensures c.body_lengths-lengt
 pub is_sized-requires : goal.is_sized-requires
 is_sized-requires c =
     let n = kind_lengths c.args.f in
-    rw (first (goal.at.is_sized-requires c).After-body_lengths-lengths) (omega (arith, n, c.requires), omega (arith, n, (kind_sections c.args.f.kind).1))
+    rw (first (goal.at.is_sized-requires c).After-body_lengths-lengths) (
+      omega (arith, n, c.requires),
+      omega (arith, n, (kind_sections c.args.f.kind).1),
+    )
 
 pub returns : goal.returns
 returns c = c.is_sized.ensures ∙ ap (sized c.args.s.now) (first (goal.at.returns c).After-body_lengths-lengths)

@@ -35,12 +35,21 @@ returns-then-not-is_plant_headed c = rw (sym c.is_plant_headed.ensures ∙ c.if-
 
 pub returns-then-not-is_laid_out : goal.returns-then-not-is_laid_out
 unfolding plant_form
-returns-then-not-is_laid_out c = rw (row1 (goal.at.returns-then-not-is_laid_out c).Else-not-is_plant_headed, sym c.is_laid_out.ensures ∙ c.if-not-is_laid_out.true)
+returns-then-not-is_laid_out c =
+    rw (
+      row1 (goal.at.returns-then-not-is_laid_out c).Else-not-is_plant_headed,
+      sym c.is_laid_out.ensures ∙ c.if-not-is_laid_out.true,
+    )
 
 pub returns-then-not-is_in_limits : goal.returns-then-not-is_in_limits
 unfolding plant_form
 returns-then-not-is_in_limits c =
-    rw (row1 (goal.at.returns-then-not-is_in_limits c).Else-not-is_plant_headed, row2 (goal.at.returns-then-not-is_in_limits c).Else-not-is_laid_out, ← c.shape_of-f.ensures, sym c.is_in_limits.ensures ∙ c.if-not-is_in_limits.true)
+    rw (
+      row1 (goal.at.returns-then-not-is_in_limits c).Else-not-is_plant_headed,
+      row2 (goal.at.returns-then-not-is_in_limits c).Else-not-is_laid_out,
+      ← c.shape_of-f.ensures,
+      sym c.is_in_limits.ensures ∙ c.if-not-is_in_limits.true,
+    )
 
 pub returns-then-not-has_lengths : goal.returns-then-not-has_lengths
 unfolding plant_form
@@ -68,7 +77,11 @@ only_row5 c =
     )
 
 pub returns-then-not-is_in_range : goal.returns-then-not-is_in_range
-returns-then-not-is_in_range c = rw (only_row5 (goal.at.returns-then-not-is_in_range c).Else-not-has_lengths, sym c.is_in_range.ensures ∙ c.if-not-is_in_range.true)
+returns-then-not-is_in_range c =
+    rw (
+      only_row5 (goal.at.returns-then-not-is_in_range c).Else-not-has_lengths,
+      sym c.is_in_range.ensures ∙ c.if-not-is_in_range.true,
+    )
 
 pub returns : goal.returns
 returns c = rw (only_row5 (goal.at.returns c).Else-not-has_lengths, sym c.is_in_range.ensures ∙ c.if-not-is_in_range.false)

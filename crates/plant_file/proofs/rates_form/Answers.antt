@@ -35,8 +35,16 @@ tried c =
 
 pub returns-then-not-are_rates_in_range : goal.returns-then-not-are_rates_in_range
 unfolding rates_form
-returns-then-not-are_rates_in_range c = rw (sized (goal.at.returns-then-not-are_rates_in_range c).After-are_rates_in_range, sym (tried (goal.at.returns-then-not-are_rates_in_range c).After-are_rates_in_range) ∙ c.if-not-are_rates_in_range.true) refl
+returns-then-not-are_rates_in_range c =
+    rw (
+      sized (goal.at.returns-then-not-are_rates_in_range c).After-are_rates_in_range,
+      sym (tried (goal.at.returns-then-not-are_rates_in_range c).After-are_rates_in_range) ∙ c.if-not-are_rates_in_range.true,
+    ) refl
 
 pub returns : goal.returns
 unfolding rates_form
-returns c = rw (sized (goal.at.returns c).After-are_rates_in_range, sym (tried (goal.at.returns c).After-are_rates_in_range) ∙ c.if-not-are_rates_in_range.false) refl
+returns c =
+    rw (
+      sized (goal.at.returns c).After-are_rates_in_range,
+      sym (tried (goal.at.returns c).After-are_rates_in_range) ∙ c.if-not-are_rates_in_range.false,
+    ) refl

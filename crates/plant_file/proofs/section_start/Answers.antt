@@ -64,8 +64,10 @@ loop-i-preserved c = (search rules, next (goal.at.loop-i-preserved c).In-loop-i)
 pub returns : goal.returns
 returns c =
     let e : c.loop-i.i ≡ (s (goal.at.returns c).After-section_count).args.place = omega arith in
-    let at = c.loop-i.invariant.1 ∙ at_is (goal.at.returns c).After-section_count c.loop-i.i (omega (arith, (s (goal.at.returns c).After-section_count).requires)) in
-    (at ∙ ap (start (plant_lengths (s (goal.at.returns c).After-section_count).args.f)) e, rw at (small (goal.at.returns c).After-section_count c.loop-i.i (omega (arith, (s (goal.at.returns c).After-section_count).requires))))
+    let at = c.loop-i.invariant.1 ∙ at_is (goal.at.returns c).After-section_count c.loop-i.i (omega (arith, (s (goal.at.returns c).After-section_count).requires)) in (
+      at ∙ ap (start (plant_lengths (s (goal.at.returns c).After-section_count).args.f)) e,
+      rw at (small (goal.at.returns c).After-section_count c.loop-i.i (omega (arith, (s (goal.at.returns c).After-section_count).requires))),
+    )
 
 pub bounds-lengths-i : goal.bounds-lengths-i
 bounds-lengths-i c =

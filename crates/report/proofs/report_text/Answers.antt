@@ -29,8 +29,15 @@ facts c =
 
 pub write_weeks-requires : goal.write_weeks-requires
 write_weeks-requires c =
-    let profit = c.in-Passed.p.profit in
-    ((facts (goal.at.write_weeks-requires c).After-write_first-at).ready, omega (arith, (facts (goal.at.write_weeks-requires c).After-write_first-at).most, c.write_first-at.ensures.end, first_most (check.Passed profit)))
+    let profit = c.in-Passed.p.profit in (
+      (facts (goal.at.write_weeks-requires c).After-write_first-at).ready,
+      omega (
+        arith,
+        (facts (goal.at.write_weeks-requires c).After-write_first-at).most,
+        c.write_first-at.ensures.end,
+        first_most (check.Passed profit),
+      ),
+    )
 
 pub returns-in-Refused : goal.returns-in-Refused
 unfolding report_text check_of
@@ -47,5 +54,14 @@ returns-in-Passed c =
     let profit = c.in-Passed.p.profit in
     let first = c.write_first-at.ensures in
     let both = stored_both {s = a.out.now} (omega arith) first c.write_weeks.ensures in
-    rw (passed (goal.at.returns-in-Passed c).After-write_first-at, ← (facts (goal.at.returns-in-Passed c).After-write_first-at).lines)
-    (omega (arith, c.write_weeks.ensures.end, (facts (goal.at.returns-in-Passed c).After-write_first-at).most, first.end, first_most (check.Passed profit)), omega (arith, both.end), both.output)
+    rw (passed (goal.at.returns-in-Passed c).After-write_first-at, ← (facts (goal.at.returns-in-Passed c).After-write_first-at).lines) (
+      omega (
+        arith,
+        c.write_weeks.ensures.end,
+        (facts (goal.at.returns-in-Passed c).After-write_first-at).most,
+        first.end,
+        first_most (check.Passed profit),
+      ),
+      omega (arith, both.end),
+      both.output,
+    )

@@ -68,7 +68,14 @@ overflow_add-week c =
 pub write_line-p-requires : goal.write_line-p-requires
 write_line-p-requires c =
     let inv = c.loop-k.invariant in
-    omega (arith, c.requires.2, inv.3, inv.4.size, ap length (next (goal.at.write_line-p-requires c).After-changeover_to-over), length-append (here (goal.at.write_line-p-requires c).After-changeover_to-over) (later (goal.at.write_line-p-requires c).After-changeover_to-over))
+    omega (
+      arith,
+      c.requires.2,
+      inv.3,
+      inv.4.size,
+      ap length (next (goal.at.write_line-p-requires c).After-changeover_to-over),
+      length-append (here (goal.at.write_line-p-requires c).After-changeover_to-over) (later (goal.at.write_line-p-requires c).After-changeover_to-over),
+    )
 
 pub loop-k-preserved : goal.loop-k-preserved
 loop-k-preserved c =

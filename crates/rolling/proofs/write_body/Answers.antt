@@ -58,8 +58,11 @@ returns-then-place-eq-RATE c =
     ∙ stored (goal.at.returns-then-place-eq-RATE c).Start 1 c.if-place-eq-RATE.true refl)
 
 pub write_demand-requires : goal.write_demand-requires
-write_demand-requires c =
-    (c.requires.0.plant_good, omega (arith, c.requires.0.left), omega (arith, room (goal.at.write_demand-requires c).Start 4 c.if-place-eq-DEMAND.true))
+write_demand-requires c = (
+  c.requires.0.plant_good,
+  omega (arith, c.requires.0.left),
+  omega (arith, room (goal.at.write_demand-requires c).Start 4 c.if-place-eq-DEMAND.true),
+)
 
 pub returns-then-place-eq-DEMAND : goal.returns-then-place-eq-DEMAND
 unfolding plant_bodies rolled_plant
@@ -67,8 +70,12 @@ returns-then-place-eq-DEMAND c =
     c.write_demand.ensures ∙ stored (goal.at.returns-then-place-eq-DEMAND c).Start 4 c.if-place-eq-DEMAND.true refl
 
 pub write_opening-requires : goal.write_opening-requires
-write_opening-requires c =
-    (c.requires.0.plan_good, c.requires.0.some, c.requires.0.left, omega (arith, room (goal.at.write_opening-requires c).Start 9 c.if-place-eq-OPENING.true))
+write_opening-requires c = (
+  c.requires.0.plan_good,
+  c.requires.0.some,
+  c.requires.0.left,
+  omega (arith, room (goal.at.write_opening-requires c).Start 9 c.if-place-eq-OPENING.true),
+)
 
 pub returns-then-place-eq-OPENING : goal.returns-then-place-eq-OPENING
 returns-then-place-eq-OPENING c =

@@ -76,8 +76,12 @@ slice_bounds-write_demand_row-end c =
     omega (arith, fits (goal.at.slice_bounds-write_demand_row-end c).In-loop-pair)
 
 pub write_demand_row-requires : goal.write_demand_row-requires
-write_demand_row-requires c =
-    (c.requires.0, c.requires.1, below (goal.at.write_demand_row-requires c).In-loop-pair, simp (length-take, length-drop) (omega (arith, fits (goal.at.write_demand_row-requires c).In-loop-pair)))
+write_demand_row-requires c = (
+  c.requires.0,
+  c.requires.1,
+  below (goal.at.write_demand_row-requires c).In-loop-pair,
+  simp (length-take, length-drop) (omega (arith, fits (goal.at.write_demand_row-requires c).In-loop-pair)),
+)
 
 pub overflow_add-p : goal.overflow_add-p
 overflow_add-p c =

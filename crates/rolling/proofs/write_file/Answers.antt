@@ -90,7 +90,13 @@ returns c =
     let out = a.out.now in
     let bodies = plant_bodies (rolled_in a.f a.plant.now a.plan.now a.k a.rates.now) in
     let all : c.loop-place.place ≡ 12 =
-    omega (arith, c.loop-place-test.false, c.loop-place.invariant.0, c.section_count-sections.ensures.0, sections_are a.f a.k _ c.rolled_shape-g.ensures) in
+    omega (
+      arith,
+      c.loop-place-test.false,
+      c.loop-place.invariant.0,
+      c.section_count-sections.ensures.0,
+      sections_are a.f a.k _ c.rolled_shape-g.ensures,
+    ) in
     let contents =
     ap (λ (g : Shape). store out 0 (contents_bytes (plant_kind g.kind).number 1 (plant_lengths g))) c.rolled_shape-g.ensures
     ∙ ap (store out 0) (contents_first 4 1 bodies (plant_lengths (rolled_shape a.f a.k)) (rolled_lengths P x a.k rate)) in

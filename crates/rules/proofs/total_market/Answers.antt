@@ -36,8 +36,12 @@ returns c =
     let x = plan_of a.f a.plan.now in
     let t = c.loop-pair in
     let all : (g : ℕ → ℕ) → sum_below t.pair g ≡ sum_below (a.f.customers * a.f.products) g =
-    λ g. let e : t.pair ≡ a.f.customers * a.f.products = omega (arith, c.area-pairs.ensures.0, t.invariant.0) in ap (λ (k : ℕ). sum_below k g) e in
-    (t.invariant.2 ∙ (all _ ∙ sym (sales_by_pair P x)), t.invariant.3 ∙ (all _ ∙ sym (backlog_by_pair P x)), omega (arith, t.invariant), omega (arith, t.invariant))
+    λ g. let e : t.pair ≡ a.f.customers * a.f.products = omega (arith, c.area-pairs.ensures.0, t.invariant.0) in ap (λ (k : ℕ). sum_below k g) e in (
+      t.invariant.2 ∙ (all _ ∙ sym (sales_by_pair P x)),
+      t.invariant.3 ∙ (all _ ∙ sym (backlog_by_pair P x)),
+      omega (arith, t.invariant),
+      omega (arith, t.invariant),
+    )
 
 pub pair_market-one-requires : goal.pair_market-one-requires
 pair_market-one-requires c =

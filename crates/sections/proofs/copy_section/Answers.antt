@@ -20,8 +20,10 @@ starts s i e h = ap (λ (x : Entry). x.offset) h
 -- this byte lies within the file, and has room
 inside : (c : In-loop-j) → let a = c.args in
     (c.entry_in-e.result.offset + c.loop-j.j + 1 ≤ length a.s.now) × (c.loop-j.j + 1 ≤ length a.out.now)
-inside c =
-    (omega (arith, starts c.args.s.now c.args.i _ c.entry_in-e.ensures.0, c.requires.0.fits, c.loop-j-test.true), omega (arith, c.requires.1, c.loop-j-test.true))
+inside c = (
+  omega (arith, starts c.args.s.now c.args.i _ c.entry_in-e.ensures.0, c.requires.0.fits, c.loop-j-test.true),
+  omega (arith, c.requires.1, c.loop-j-test.true),
+)
 
 pub loop-j-preserved : goal.loop-j-preserved
 loop-j-preserved c =

@@ -28,7 +28,11 @@ returns-then-not-is_placed c = rw (row21 (goal.at.returns-then-not-is_placed c).
 pub returns-then-not-has_lengths : goal.returns-then-not-has_lengths
 unfolding slot_form
 returns-then-not-has_lengths c =
-    rw (row21 (goal.at.returns-then-not-has_lengths c).Else-not-is_headed, row22 (goal.at.returns-then-not-has_lengths c).Else-not-is_placed, sym c.has_lengths.ensures ∙ c.if-not-has_lengths.true)
+    rw (
+      row21 (goal.at.returns-then-not-has_lengths c).Else-not-is_headed,
+      row22 (goal.at.returns-then-not-has_lengths c).Else-not-is_placed,
+      sym c.has_lengths.ensures ∙ c.if-not-has_lengths.true,
+    )
 
 laid : (c : Else-not-has_lengths)
     → Laid c.args.s.now (slot_lengths c.args.f (slots_before c.args.s.now c.args.f.weeks))
@@ -43,20 +47,32 @@ laid c =
 pub returns-then-not-is_in_range : goal.returns-then-not-is_in_range
 unfolding slot_form
 returns-then-not-is_in_range c =
-    rw (row21 (goal.at.returns-then-not-is_in_range c).Else-not-is_headed, row22 (goal.at.returns-then-not-is_in_range c).Else-not-is_placed, (laid (goal.at.returns-then-not-is_in_range c).Else-not-has_lengths).lens, sym c.is_in_range.ensures ∙ c.if-not-is_in_range.true)
+    rw (
+      row21 (goal.at.returns-then-not-is_in_range c).Else-not-is_headed,
+      row22 (goal.at.returns-then-not-is_in_range c).Else-not-is_placed,
+      (laid (goal.at.returns-then-not-is_in_range c).Else-not-has_lengths).lens,
+      sym c.is_in_range.ensures ∙ c.if-not-is_in_range.true,
+    )
 
 pub returns : goal.returns
 unfolding slot_form
 returns c =
-    rw (row21 (goal.at.returns c).Else-not-is_headed, row22 (goal.at.returns c).Else-not-is_placed, (laid (goal.at.returns c).Else-not-has_lengths).lens, sym c.is_in_range.ensures ∙ c.if-not-is_in_range.false)
+    rw (
+      row21 (goal.at.returns c).Else-not-is_headed,
+      row22 (goal.at.returns c).Else-not-is_placed,
+      (laid (goal.at.returns c).Else-not-has_lengths).lens,
+      sym c.is_in_range.ensures ∙ c.if-not-is_in_range.false,
+    )
 
 pub is_placed-requires : goal.is_placed-requires
 is_placed-requires c =
     ((headed_facts _ 3 41 3 (row21 (goal.at.is_placed-requires c).Else-not-is_headed)).long, search rules)
 
 pub has_lengths-requires : goal.has_lengths-requires
-has_lengths-requires c =
-    ((headed_facts _ 3 41 3 (row21 (goal.at.has_lengths-requires c).Else-not-is_headed)).long, row22 (goal.at.has_lengths-requires c).Else-not-is_placed)
+has_lengths-requires c = (
+  (headed_facts _ 3 41 3 (row21 (goal.at.has_lengths-requires c).Else-not-is_headed)).long,
+  row22 (goal.at.has_lengths-requires c).Else-not-is_placed,
+)
 
 pub is_in_range-requires : goal.is_in_range-requires
 is_in_range-requires c =

@@ -66,17 +66,34 @@ overflow_add-revenue c =
 
 pub overflow_add-cost : goal.overflow_add-cost
 overflow_add-cost c =
-    omega (arith, c.charge-late.ensures.1, left_most (goal.at.overflow_add-cost c).After-less-left, c.loop-pair.invariant.6, place (goal.at.overflow_add-cost c).In-loop-pair)
+    omega (
+      arith,
+      c.charge-late.ensures.1,
+      left_most (goal.at.overflow_add-cost c).After-less-left,
+      c.loop-pair.invariant.6,
+      place (goal.at.overflow_add-cost c).In-loop-pair,
+    )
 
 pub loop-pair-preserved : goal.loop-pair-preserved
 loop-pair-preserved c =
     let b = c.loop-pair in (
       search rules,
       cell_stored _ _ _ _ b.invariant.1 _ (left (goal.at.loop-pair-preserved c).After-less-left),
-      rw (add-one, c.and-due.ensures, b.invariant.2, same (goal.at.loop-pair-preserved c).In-loop-pair, c.pair_sales.ensures.0, c.pair_demand.ensures.0),
+      rw (
+        add-one,
+        c.and-due.ensures,
+        b.invariant.2,
+        same (goal.at.loop-pair-preserved c).In-loop-pair,
+        c.pair_sales.ensures.0,
+        c.pair_demand.ensures.0,
+      ),
       rw (add-one, ← c.pair_sales.ensures.0, ← c.pair_price.ensures.0) (omega (arith, b.invariant.3, c.charge-bought.ensures.0)),
       omega (arith, b.invariant.4, c.charge-bought.ensures.1, c.pair_sales.ensures.1),
-      rw (add-one, ← (left (goal.at.loop-pair-preserved c).After-less-left), ← c.pair_backlog_cost.ensures.0) (omega (arith, b.invariant.5, c.charge-late.ensures.0)),
+      rw (
+        add-one,
+        ← (left (goal.at.loop-pair-preserved c).After-less-left),
+        ← c.pair_backlog_cost.ensures.0,
+      ) (omega (arith, b.invariant.5, c.charge-late.ensures.0)),
       omega (arith, b.invariant.6, c.charge-late.ensures.1, left_most (goal.at.loop-pair-preserved c).After-less-left),
     )
 

@@ -45,7 +45,13 @@ left_most c =
 
 pub overflow_add-cost : goal.overflow_add-cost
 overflow_add-cost c =
-    omega (arith, c.charge-held.ensures.1, left_most (goal.at.overflow_add-cost c).After-less-left, c.loop-product.invariant.5, place (goal.at.overflow_add-cost c).In-loop-product)
+    omega (
+      arith,
+      c.charge-held.ensures.1,
+      left_most (goal.at.overflow_add-cost c).After-less-left,
+      c.loop-product.invariant.5,
+      place (goal.at.overflow_add-cost c).In-loop-product,
+    )
 
 pub loop-product-preserved : goal.loop-product-preserved
 loop-product-preserved c =
@@ -55,7 +61,11 @@ loop-product-preserved c =
       rw (add-one, c.and-in_stock.ensures, b.invariant.2, same (goal.at.loop-product-preserved c).In-loop-product, c.sold.ensures.0),
       rw (add-one, c.and-kept.ensures, c.inside.ensures, b.invariant.3, c.greatest_storage-greatest.ensures.0)
           (rw (c.least_storage-least.ensures.0, left (goal.at.loop-product-preserved c).After-less-left)),
-      rw (add-one, ← (left (goal.at.loop-product-preserved c).After-less-left), ← c.inventory_cost.ensures.0) (omega (arith, b.invariant.4, c.charge-held.ensures.0)),
+      rw (
+        add-one,
+        ← (left (goal.at.loop-product-preserved c).After-less-left),
+        ← c.inventory_cost.ensures.0,
+      ) (omega (arith, b.invariant.4, c.charge-held.ensures.0)),
       omega (arith, b.invariant.5, c.charge-held.ensures.1, left_most (goal.at.loop-product-preserved c).After-less-left),
     )
 

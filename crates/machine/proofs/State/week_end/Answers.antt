@@ -26,8 +26,15 @@ amounts : (c : After-week_outcome-outcome) → (mag c.args.self.profit.0 ≤ 400
     × (c.backlog_update-carried.result.charge.0 ≤ 60000000000000000)
     × (c.inventory_update-sold.result.charge.0 ≤ 60000000000000000)
 amounts c =
-    let carried = c.backlog_update-carried.ensures in
-    (omega (arith, (sane_roomy c.requires.1 (omega (arith, (counts _ _ c.requires.0.plant_good).weeks, c.requires.0.week_known)) (omega arith)).profit_most), carried.revenue_most, carried.charge_most, c.inventory_update-sold.ensures.charge_most)
+    let carried = c.backlog_update-carried.ensures in (
+      omega (
+        arith,
+        (sane_roomy c.requires.1 (omega (arith, (counts _ _ c.requires.0.plant_good).weeks, c.requires.0.week_known)) (omega arith)).profit_most,
+      ),
+      carried.revenue_most,
+      carried.charge_most,
+      c.inventory_update-sold.ensures.charge_most,
+    )
 
 -- the outcome of the three tests
 tested : (c : After-week_outcome-outcome) → let a = c.args in

@@ -27,7 +27,8 @@ pub fn opening_mounted(plant: &[u8], f: Shape) -> Mounted
     ensures { (result ≡ opening_mounted (plant_of f plant.now).line) × mounted_below f.products result }
 {
     let product = mounted(plant, f);
-    if product == NOTHING_MOUNTED {
+    let is_nothing = product == NOTHING_MOUNTED;
+    if is_nothing {
         return Mounted::Nothing;
     }
     Mounted::Product(product as u8)

@@ -255,7 +255,8 @@ fn is_mounted_in_range(s: &[u8], f: Shape) -> bool
 {
     let product = opening_byte(s, f, 0, NOTHING_MOUNTED);
     let shut_before = opening_byte(s, f, 1, 0);
-    if shut_before <= 1 {
+    let is_known = shut_before <= 1;
+    if is_known {
         return is_mounted_known(product, f);
     }
     false

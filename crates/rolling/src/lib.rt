@@ -52,7 +52,8 @@ fn is_backlog_carried(plant: &[u8], plan: &[u8], f: Shape, k: usize) -> bool
     let pairs = area(f.customers, f.products);
     let mut pair = 0;
     while pair < pairs {
-        if plant_file::MOST_OPENING_BACKLOG < pair_backlog(plan, f, pair, k - 1) {
+        let is_over = plant_file::MOST_OPENING_BACKLOG < pair_backlog(plan, f, pair, k - 1);
+        if is_over {
             return false;
         }
         pair += 1;

@@ -10,15 +10,15 @@ use Rattle.plant_file.specs.Plant.{plant_of}
 use Rattle.costs.specs.declared.Mounted.TheVariants.{Product}
 use Rattle.costs.specs.Mounted.{opening_mounted}
 use Rattle.costs.proofs.opening_mounted.Goals as goal
-use Rattle.costs.proofs.opening_mounted.Goals.{Else-product-eq-NOTHING_MOUNTED}
+use Rattle.costs.proofs.opening_mounted.Goals.{Else-is_nothing}
 
 -- what is not nothing is a product
-product_below : (c : Else-product-eq-NOTHING_MOUNTED) → c.mounted-product.result < c.args.f.products
-product_below c = elim c.mounted-product.ensures.1 [ inl h ↦ h | inr h ↦ absurd (c.if-product-eq-NOTHING_MOUNTED.false (omega (arith, h))) ]
+product_below : (c : Else-is_nothing) → c.mounted-product.result < c.args.f.products
+product_below c = elim c.mounted-product.ensures.1 [ inl h ↦ h | inr h ↦ absurd (c.if-is_nothing.false (omega (arith, h))) ]
 
-pub returns-then-product-eq-NOTHING_MOUNTED : goal.returns-then-product-eq-NOTHING_MOUNTED
+pub returns-then-is_nothing : goal.returns-then-is_nothing
 unfolding opening_mounted
-returns-then-product-eq-NOTHING_MOUNTED c =
+returns-then-is_nothing c =
     let a = c.args in
     let m = (plant_of a.f a.plant.now).line.mounted in
     (rw (eq-eqb m nothing_mounted (omega (arith, c.mounted-product.ensures.0))) refl, tt)
@@ -29,10 +29,10 @@ returns c =
     let a = c.args in
     let m = (plant_of a.f a.plant.now).line.mounted in
     let r = c.mounted-product.ensures.0 in (
-      rw (ne_eqb m nothing_mounted (λ e. c.if-product-eq-NOTHING_MOUNTED.false (omega (arith, r, e)))) (ap Product r),
-      product_below (goal.at.returns c).Else-product-eq-NOTHING_MOUNTED,
+      rw (ne_eqb m nothing_mounted (λ e. c.if-is_nothing.false (omega (arith, r, e)))) (ap Product r),
+      product_below (goal.at.returns c).Else-is_nothing,
     )
 
 pub overflow_cast-result : goal.overflow_cast-result
 overflow_cast-result c =
-    omega (arith, product_below (goal.at.overflow_cast-result c).Else-product-eq-NOTHING_MOUNTED)
+    omega (arith, product_below (goal.at.overflow_cast-result c).Else-is_nothing)

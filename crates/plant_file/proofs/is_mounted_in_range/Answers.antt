@@ -6,9 +6,9 @@ use Rattle.plant_file.specs.Plant.{mounted_in, shut_before_in}
 use Rattle.plant_file.specs.Form.{mounted_known, mounted_in_range}
 use Rattle.plant_file.proofs.is_mounted_in_range.Goals as goal
 
-pub returns-then-shut_before-le1 : goal.returns-then-shut_before-le1
+pub returns-then-is_known : goal.returns-then-is_known
 unfolding mounted_in_range mounted_in shut_before_in
-returns-then-shut_before-le1 c =
+returns-then-is_known c =
     let a = c.args in
     rw (le-leb (shut_before_in a.f a.s.now) 1 (omega (arith, c.opening_byte-shut_before.ensures)))
     (c.is_mounted_known.ensures ∙ ap (mounted_known a.f.products) c.opening_byte-product.ensures)

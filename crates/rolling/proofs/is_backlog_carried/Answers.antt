@@ -27,8 +27,8 @@ owed c =
     let pair = c.loop-pair.pair in
     read_at ((plan_of a.f a.plan.now).backlog (pair / a.f.products) (pair % a.f.products)) (a.k - 1) c.pair_backlog.ensures.0 (omega arith)
 
-pub returns-then-pair_backlog-gt-MOST_OPENING_BACKLOG : goal.returns-then-pair_backlog-gt-MOST_OPENING_BACKLOG
-returns-then-pair_backlog-gt-MOST_OPENING_BACKLOG c =
+pub returns-then-is_over : goal.returns-then-is_over
+returns-then-is_over c =
     let a = c.args in
     let pair = c.loop-pair.pair in
     let f = a.f in
@@ -36,14 +36,14 @@ returns-then-pair_backlog-gt-MOST_OPENING_BACKLOG c =
     let x = plan_of f a.plan.now in
     let p = pair_of f.customers f.products pair (omega (arith, c.loop-pair-test.true, c.area-pairs.ensures.0)) in
     sym (not_carried P x a.k (pair / f.products) (pair % f.products) p.row p.column
-    (omega (arith, owed (goal.at.returns-then-pair_backlog-gt-MOST_OPENING_BACKLOG c).After-pair_backlog, after_is P x a.k c.requires.1 (pair / f.products) (pair % f.products), c.if-pair_backlog-gt-MOST_OPENING_BACKLOG.true)))
+    (omega (arith, owed (goal.at.returns-then-is_over c).After-pair_backlog, after_is P x a.k c.requires.1 (pair / f.products) (pair % f.products), c.if-is_over.true)))
 
 pub loop-pair-preserved : goal.loop-pair-preserved
 loop-pair-preserved c =
     let b = c.loop-pair in (
       search rules,
       λ q l. elim (ℕ_discrete q b.pair) [
-        | yes e ↦ rw e (omega (arith, owed (goal.at.loop-pair-preserved c).After-pair_backlog, c.if-pair_backlog-gt-MOST_OPENING_BACKLOG.false))
+        | yes e ↦ rw e (omega (arith, owed (goal.at.loop-pair-preserved c).After-pair_backlog, c.if-is_over.false))
         | no n ↦ b.invariant.1 q (omega arith)
       ],
     )

@@ -12,20 +12,20 @@ use Rattle.rules.specs.Rules.{backlog_before}
 use Rattle.model.proofs.RolledTests.{each_carried, not_carried, backlog_after_lem}
 use Rattle.rolling.proofs.RolledBodies.{read_at}
 use Rattle.rolling.proofs.is_backlog_carried.Goals as goal
-use Rattle.rolling.proofs.is_backlog_carried.Goals.{After-pair_backlog}
+use Rattle.rolling.proofs.is_backlog_carried.Goals.{After-pair_backlog-is_over}
 
 -- the backlog after week k
 after_is : (P : Plant) (x : Plan) (k : ℕ) → 1 ≤ k → (c i : ℕ) → backlog_before P x k c i ≡ x.backlog c i (k - 1)
 after_is P x k l c i = ap (λ (owed : ℕ → ℕ → ℕ). owed c i) (backlog_after_lem P x k l)
 
 -- the pair's number, which was read
-owed : (c : After-pair_backlog) → let a = c.args in
+owed : (c : After-pair_backlog-is_over) → let a = c.args in
     let pair = c.loop-pair.pair in
-    c.pair_backlog.result ≡ (plan_of a.f a.plan.now).backlog (pair / a.f.products) (pair % a.f.products) (a.k - 1)
+    c.pair_backlog-is_over.result ≡ (plan_of a.f a.plan.now).backlog (pair / a.f.products) (pair % a.f.products) (a.k - 1)
 owed c =
     let a = c.args in
     let pair = c.loop-pair.pair in
-    read_at ((plan_of a.f a.plan.now).backlog (pair / a.f.products) (pair % a.f.products)) (a.k - 1) c.pair_backlog.ensures.0 (omega arith)
+    read_at ((plan_of a.f a.plan.now).backlog (pair / a.f.products) (pair % a.f.products)) (a.k - 1) c.pair_backlog-is_over.ensures.0 (omega arith)
 
 pub returns-then-is_over : goal.returns-then-is_over
 returns-then-is_over c =
@@ -36,14 +36,14 @@ returns-then-is_over c =
     let x = plan_of f a.plan.now in
     let p = pair_of f.customers f.products pair (omega (arith, c.loop-pair-test.true, c.area-pairs.ensures.0)) in
     sym (not_carried P x a.k (pair / f.products) (pair % f.products) p.row p.column
-    (omega (arith, owed (goal.at.returns-then-is_over c).After-pair_backlog, after_is P x a.k c.requires.1 (pair / f.products) (pair % f.products), c.if-is_over.true)))
+    (omega (arith, owed (goal.at.returns-then-is_over c).After-pair_backlog-is_over, after_is P x a.k c.requires.1 (pair / f.products) (pair % f.products), c.if-is_over.true)))
 
 pub loop-pair-preserved : goal.loop-pair-preserved
 loop-pair-preserved c =
     let b = c.loop-pair in (
       search rules,
       λ q l. elim (ℕ_discrete q b.pair) [
-        | yes e ↦ rw e (omega (arith, owed (goal.at.loop-pair-preserved c).After-pair_backlog, c.if-is_over.false))
+        | yes e ↦ rw e (omega (arith, owed (goal.at.loop-pair-preserved c).After-pair_backlog-is_over, c.if-is_over.false))
         | no n ↦ b.invariant.1 q (omega arith)
       ],
     )

@@ -503,6 +503,9 @@ fn a_link_or_a_pipe_is_written_through() {
     // Before the reader is waited for: it would wait for ever on a pipe that was replaced.
     assert!(fs::metadata(&pipe).expect("the pipe").file_type().is_fifo());
     assert_eq!(reader.join().expect("the reader ends"), folder.read("plant.bin"));
+
+    // `rt ci` refuses a checkout with links in it.
+    fs::remove_file(folder.path.join("link")).expect("the link can be removed");
 }
 
 #[test]

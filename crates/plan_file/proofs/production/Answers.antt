@@ -11,4 +11,4 @@ cell_in-requires c = inside _ _ c.requires.0 _ (omega arith) width4 refl c.index
 
 pub returns : goal.returns
 unfolding plan_of
-returns c = number _ _ _ (λ i. (c.shared_slice_known-1.given i).fits) c.cell_in.ensures c.index2.ensures.0
+returns c = number _ _ _ (λ i. (c.type_inv.s i).fits) c.cell_in.ensures c.index2.ensures.0

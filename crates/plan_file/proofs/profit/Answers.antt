@@ -16,7 +16,7 @@ pub returns : goal.returns
 unfolding plan_of
 returns c =
     ap (λ (z : ℤ). to_z w64 (of_z w64 z)) (c.signed.ensures ∙ ap signed_of c.cell_in.ensures)
-    ∙ to_z-of_z w64 _ (plan_fits _ _ (λ i. (c.shared_slice_known-1.given i).fits) c.requires).profit
+    ∙ to_z-of_z w64 _ (plan_fits _ _ (λ i. (c.type_inv.s i).fits) c.requires).profit
 
 pub cell_in-requires : goal.cell_in-requires
 cell_in-requires c =

@@ -39,7 +39,7 @@ entry_in-e-requires c =
 
 pub returns : goal.returns
 returns c =
-    let bytes : Bytes c.args.s.now = λ i. (c.shared_slice_known-1.given i).fits in
+    let bytes : Bytes c.args.s.now = λ i. (c.type_inv.s i).fits in
     c.copy_section.ensures
     ∙ ap (store c.args.out.now 0)
     (section_is 1 _ c.args.s.now c.args.place bytes (held (goal.at.returns c).After-entry_in-e) (sym (extent_is (goal.at.returns c).After-entry_in-e) ∙ sym (one-mul _))

@@ -19,12 +19,10 @@ passed : (c : After-write_first-at) → let a = c.args in
     judgement_of a.plant.now a.plan.now ≡ Passed c.in-Passed.p
 passed c = sym c.in-Passed.ensures
 
-facts : (c : After-write_first-at) → let d = c in let a = d.args in
-    PassedText d.in-Passed.p.shape a.plant.now a.plan.now
+facts : (c : After-write_first-at) → PassedText c.in-Passed.p.shape c.args.plant.now c.args.plan.now
 facts c =
-    let d = c in
-    let a = d.args in
-    passed_text _ a.plant.now a.plan.now _ (λ i. (d.shared_slice_known-2-1.given i).fits)
+    let a = c.args in
+    passed_text _ a.plant.now a.plan.now _ (λ i. (c.type_inv.plan i).fits)
     (judged_passing a.plant.now a.plan.now _ (passed c))
 
 pub write_weeks-requires : goal.write_weeks-requires

@@ -17,7 +17,7 @@ read : (c : In-Length) → (c.in-Length.n ≤ length c.slot_return.new.out)
     × (plan_answer c.args.plant.now (take c.in-Length.n c.slot_return.new.out) ≡ bytes c.args.plan.now)
 read c =
     let a = c.args in
-    passed_plan.slots_read a.plant.now a.plan.now (λ i. (c.shared_slice_known-2-1.given i).fits) c.in-Passed.field-0 (sym c.in-Passed.ensures)
+    passed_plan.slots_read a.plant.now a.plan.now (λ i. (c.type_inv.plan i).fits) c.in-Passed.field-0 (sym c.in-Passed.ensures)
     a.slots.now c.slot_return.new.out c.in-Length.n (sym c.in-Length.ensures.result) c.slot_return.ensures.output
 
 pub slice_bounds-plan_writing-end : goal.slice_bounds-plan_writing-end
@@ -33,7 +33,7 @@ plan_read : (c : In-Length-plan_writing) → (c.in-Length-plan_writing.m ≤ len
 plan_read c =
     let a = c.args in
     let r =
-    passed_plan.slots_read a.plant.now a.plan.now (λ i. (c.shared_slice_known-2-1.given i).fits) c.in-Passed.field-0 (sym c.in-Passed.ensures)
+    passed_plan.slots_read a.plant.now a.plan.now (λ i. (c.type_inv.plan i).fits) c.in-Passed.field-0 (sym c.in-Passed.ensures)
     a.slots.now c.slot_return.new.out c.in-Length.n (sym c.in-Length.ensures.result) c.slot_return.ensures.output in
     passed_plan.written_read a.plan.now a.again.now c.plan_writing.new.out c.in-Length-plan_writing.m
     (plan_answer a.plant.now (take c.in-Length.n c.slot_return.new.out)) r.1 (sym c.in-Length-plan_writing.ensures.result)

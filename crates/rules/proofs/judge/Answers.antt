@@ -31,7 +31,7 @@ returns-then-not-profit_holds c =
 
 pub returns : goal.returns
 returns c =
-    let bytes : Bytes c.args.plan.now = λ i. (c.shared_slice_known-2-1.given i).fits in
+    let bytes : Bytes c.args.plan.now = λ i. (c.type_inv.plan i).fits in
     ap (λ (z : ℤ). Passed (record { 0 = z })) (profit_back _ _ bytes c.requires.1 c.profit-profit.ensures)
     ∙ (sym (all_kept _ _ _ (last (goal.at.returns c).After-loop-i) (sym c.profit_holds.ensures ∙ c.if-not-profit_holds.false)) ∙ c.loop-i.invariant.1)
 

@@ -10,7 +10,7 @@ use Rattle.rules.proofs.profit_holds.Goals as goal
 
 pub returns : goal.returns
 returns c =
-    let bytes : Bytes c.args.plan.now = λ i. (c.shared_slice_known-2-1.given i).fits in
+    let bytes : Bytes c.args.plan.now = λ i. (c.type_inv.plan i).fits in
     let gained = c.total_market-market.ensures in
     c.is_profit.ensures
     ∙ rule41_is (plant_of c.args.f c.args.plant.now) (plan_of c.args.f c.args.plan.now) _ _

@@ -95,7 +95,7 @@ pub fn write_named(rt: &(impl Env + Files), i: usize, bytes: &[u8]) -> bool {
 }
 
 // What a text names: a number of 64 bits, or something else.
-#[derive(Drop)]
+#[derive(Clone, Copy)]
 pub enum Numeral {
     Number(u64),
     Other,

@@ -13,7 +13,7 @@ use sections::{Form, Shape};
 use slot_file::slot_form;
 use std::rt::{Env, Files};
 
-#[derive(Drop)]
+#[derive(Clone, Copy)]
 enum Kind {
     Plant,
     Plan,

@@ -44,9 +44,9 @@ use Rattle.demands.specs.ShutWeeks.{ShutTables, ShutSales, IsShut, Produces, Shu
 use Rattle.demands.proofs.ThirdDemandHolds.{given, slot_answer_lem, third_demand}
 
 -- slots of no product are none
-no-slots : (N : ℕ) (xs : List Slot) → ProductsBelow N (order_of_slots xs) → ((i : ℕ) → i < N → assigned_in (order_of_slots xs) i ≡ 0) → xs ≡ []
-no-slots N [] b h = refl
-no-slots N (x ∷ xs) b h = absurd (omega (arith, h x.product (b 0 (omega arith)), is_same x.product x.product refl))
+no_slots : (N : ℕ) (xs : List Slot) → ProductsBelow N (order_of_slots xs) → ((i : ℕ) → i < N → assigned_in (order_of_slots xs) i ≡ 0) → xs ≡ []
+no_slots N [] b h = refl
+no_slots N (x ∷ xs) b h = absurd (omega (arith, h x.product (b 0 (omega arith)), is_same x.product x.product refl))
 
 -- ---- a plan that slots give
 module _ (plant : List ℕ) (f : Shape) (accepted : plant_form plant ≡ Good f) (plan : List ℕ) (b : Bytes plan)
@@ -83,7 +83,7 @@ module _ (plant : List ℕ) (f : Shape) (accepted : plant_form plant ≡ Good f)
     no_slot : S.line.week w ≡ []
     unfolding week_of
     no_slot =
-        no-slots f.products (S.line.week w) (order_below f.products (S.line.week w) (g.formed w l))
+        no_slots f.products (S.line.week w) (order_below f.products (S.line.week w) (g.formed w l))
         (λ i k. sym ((plan_agree R g w l).assigned i k) ∙ none i k)
 
     order_zero : NoProduct f.products (week_of X.line w)

@@ -44,19 +44,6 @@ pub fn argument(rt: &impl Env, i: usize, buf: &mut [u8]) -> usize
     rt.arg(i, buf).unwrap_or(0)
 }
 
-// Puts the start of a file at the start of buf, and answers how many bytes. One that cannot be read counts as empty.
-pub fn read_file(rt: &impl Files, path: &[u8], buf: &mut [u8]) -> usize
-    ensures { IsPrefixLen result buf.new }
-{
-    let Ok(path) = str::from_utf8(path) else {
-        return 0;
-    };
-    let Ok(mut file) = fs::open(rt, path) else {
-        return 0;
-    };
-    read_full(&mut file, buf)
-}
-
 // Reads until buf is full, the input ends or a read fails, and answers how many bytes it put at the start of buf.
 fn read_full(file: &mut impl Read, buf: &mut [u8]) -> usize
     ensures { IsPrefixLen result buf.new }
@@ -70,6 +57,19 @@ fn read_full(file: &mut impl Read, buf: &mut [u8]) -> usize
         done += n;
     }
     done
+}
+
+// Puts the start of a file at the start of buf, and answers how many bytes. One that cannot be read counts as empty.
+pub fn read_file(rt: &impl Files, path: &[u8], buf: &mut [u8]) -> usize
+    ensures { IsPrefixLen result buf.new }
+{
+    let Ok(path) = str::from_utf8(path) else {
+        return 0;
+    };
+    let Ok(mut file) = fs::open(rt, path) else {
+        return 0;
+    };
+    read_full(&mut file, buf)
 }
 
 // The same of the file that argument i names.

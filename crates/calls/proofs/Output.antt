@@ -11,16 +11,17 @@ use lib.ListN.{length, take, drop, length-append}
 use lib.Seq.{take-append_seam}
 use borrow.Author.Tests.{le-leb, lt-leb, leb-false}
 use Rattle.numbers.specs.Number.{store}
-use Rattle.calls.specs.declared.Written.{Written}
-use Rattle.calls.specs.declared.Written.TheVariants.{Length, Refused}
-use Rattle.calls.specs.Answer.{Answer, bytes, refused, length_in, written_in, output_after}
+use Rattle.std.specs.Prelude.{Err, Ok}
+use Rattle.sections.specs.declared.Refusal.{Refusal}
+use Rattle.calls.specs.Answer.{Written, Answer, bytes, refused, length_in, written_in, output_after}
+use Rattle.sections.specs.declared.Refusal.TheVariants as refusal
 
 module _ (b out : List ℕ) where
-  pub too_short : length out < length b → (written_in (bytes b) out ≡ Refused 51) × (output_after (bytes b) out ≡ out)
+  pub too_short : length out < length b → (written_in (bytes b) out ≡ Err refusal.OutputLength) × (output_after (bytes b) out ≡ out)
   unfolding written_in output_after
   too_short h = let t = lt-leb (length b) (length out) h in (rw t, rw t)
 
-  pub long_enough : length b ≤ length out → (written_in (bytes b) out ≡ Length (length b)) × (output_after (bytes b) out ≡ b ++ drop (length b) out)
+  pub long_enough : length b ≤ length out → (written_in (bytes b) out ≡ Ok (length b)) × (output_after (bytes b) out ≡ b ++ drop (length b) out)
   unfolding written_in output_after
   long_enough h = let t = le-leb (length b) (length out) h in (rw t, rw t)
 
@@ -28,39 +29,39 @@ module _ (b out : List ℕ) where
   stored : length b ≤ length out → output_after (bytes b) out ≡ store out 0 b
   stored h = (long_enough h).1 ∙ ap (λ (n : ℕ). b ++ drop n out) (sym (zero-add (length b)))
 
--- as `refuse` leaves it where the output is too short, and as a writer leaves it
+-- where the output is too short and is left as it was, and as a writer leaves it
 module _ (b out : List ℕ) {after : List ℕ} {r : Written} where
-  pub short_as : length out < length b → (r ≡ Refused 51) × (after ≡ out) → (r ≡ written_in (bytes b) out) × (after ≡ output_after (bytes b) out)
+  pub short_as : length out < length b → (r ≡ Err refusal.OutputLength) × (after ≡ out) → (r ≡ written_in (bytes b) out) × (after ≡ output_after (bytes b) out)
   short_as l h = let e = too_short b out l in (h.0 ∙ sym e.0, h.1 ∙ sym e.1)
 
-  pub written_as : {n : ℕ} → n ≡ length b → length b ≤ length out → (r ≡ Length n) × (after ≡ store out 0 b)
+  pub written_as : {n : ℕ} → n ≡ length b → length b ≤ length out → (r ≡ Ok n) × (after ≡ store out 0 b)
       → (r ≡ written_in (bytes b) out) × (after ≡ output_after (bytes b) out)
-  written_as s l h = (h.0 ∙ (ap Length s ∙ sym (long_enough b out l).0), h.1 ∙ sym (stored b out l))
+  written_as s l h = (h.0 ∙ (ap Ok s ∙ sym (long_enough b out l).0), h.1 ∙ sym (stored b out l))
 
--- a refusal, as `refuse` leaves it
-pub refused_as : {a : Answer} {n : ℕ} {out after : List ℕ} {r : Written} → a ≡ refused n → (r ≡ Refused n) × (after ≡ out)
+-- a refusal, which leaves the output as it was
+pub refused_as : {a : Answer} {n : Refusal} {out after : List ℕ} {r : Written} → a ≡ refused n → (r ≡ Err n) × (after ≡ out)
     → (r ≡ written_in a out) × (after ≡ output_after a out)
 unfolding written_in output_after
 refused_as e h = (rw e h.0, rw e h.1)
 
 -- ---- back from what was returned
-lengths : (t : Bool) (n m : ℕ) → length_in t n ≡ Length m → (t ≡ true) × (n ≡ m)
+lengths : (t : Bool) (n m : ℕ) → length_in t n ≡ Ok m → (t ≡ true) × (n ≡ m)
 lengths true n m e = (refl, cc)
 lengths false n m e = absurd (let z : ◌≡◌ {A = ℕ} 0 1 = cc in omega arith)
 
-numbers : (t : Bool) (n m : ℕ) → length_in t n ≡ Refused m → t ≡ false
+numbers : (t : Bool) (n : ℕ) (m : Refusal) → length_in t n ≡ Err m → t ≡ false
 numbers true n m e = absurd (let z : ◌≡◌ {A = ℕ} 0 1 = cc in omega arith)
 numbers false n m e = refl
 
-module _ (b out : List ℕ) (m : ℕ) where
-  pub refused_short : written_in (bytes b) out ≡ Refused m → length out < length b
+module _ (b out : List ℕ) where
+  pub refused_short : (m : Refusal) → written_in (bytes b) out ≡ Err m → length out < length b
   unfolding written_in
-  refused_short e = leb-false (length b) (length out) (numbers (leb (length b) (length out)) (length b) m e)
+  refused_short m e = leb-false (length b) (length out) (numbers (leb (length b) (length out)) (length b) m e)
 
   -- a length is that of the bytes, which are read back from the output
-  pub written_back : written_in (bytes b) out ≡ Length m
+  pub written_back : (m : ℕ) → written_in (bytes b) out ≡ Ok m
       → (m ≡ length b) × (m ≤ length (output_after (bytes b) out)) × (take m (output_after (bytes b) out) ≡ b)
   unfolding written_in output_after
-  written_back e =
+  written_back m e =
       let f = lengths (leb (length b) (length out)) (length b) m e in
       rw (f.0, ← f.1) (refl, rw (length-append b (drop (length b) out)) (omega arith), take-append_seam b (drop (length b) out))

@@ -1,8 +1,10 @@
 -- The calls that write: what each has to write, or the number of its refusal, and what it leaves in the output. Assumes nothing.
 use Rattle.std.specs.Prelude.{ℕ, Bool, true, false, List, ◌++◌, length, drop, leb}
 use Rattle.sections.specs.declared.Shape.{Shape}
-use Rattle.sections.specs.declared.Form.{Form}
-use Rattle.sections.specs.declared.Form.TheVariants as form
+use Rattle.std.specs.Prelude.{Result, Err, Ok}
+use Rattle.sections.specs.declared.Refusal.{Refusal}
+use Rattle.sections.specs.Rows.{Form}
+use Rattle.machine.specs.State.{Outcome}
 use Rattle.plant_file.specs.Plant.{Plant, plant_of}
 use Rattle.plant_file.specs.Form.{plant_form}
 use Rattle.plant_file.specs.File.{plant_file}
@@ -12,34 +14,29 @@ use Rattle.plan_file.specs.File.{plan_file}
 use Rattle.slot_file.specs.Slots.{slots_of}
 use Rattle.slot_file.specs.Form.{slot_form}
 use Rattle.slot_file.specs.File.{slot_file}
-use Rattle.machine.specs.declared.Outcome.{Outcome}
-use Rattle.machine.specs.declared.Outcome.TheVariants as outcome
 use Rattle.machine.specs.Run.{run}
 use Rattle.model.specs.RunTables.{run_tables}
 use Rattle.model.specs.Rolled.{weeks_left, backlog_carried, rolled_plant}
-use Rattle.passed_plan.specs.declared.Judgement.{Judgement}
-use Rattle.passed_plan.specs.declared.Judgement.TheVariants as judgement
-use Rattle.passed_plan.specs.Judgement.{judgement_of}
+use Rattle.passed_plan.specs.Judgement.{Judgement, judgement_of}
 use Rattle.passed_plan.specs.Shown.{shown_in}
-use Rattle.calls.specs.declared.Written.{Written}
-use Rattle.calls.specs.declared.Written.TheVariants.{Length, Refused}
+use Rattle.sections.specs.declared.Refusal.TheVariants as refusal
 
 pub data Answer : Type 0 where
   bytes : List ℕ → Answer
-  refused : ℕ → Answer
+  refused : Refusal → Answer
 
 -- ---- what there is to write
 abbrev pub form_answer : Form → (Shape → Answer) → Answer
-form_answer (form.Good f) next = next f
-form_answer (form.Refused n) next = refused n
+form_answer (Ok f) next = next f
+form_answer (Err n) next = refused n
 
 abbrev pub judged_answer : Judgement → (Shape → Answer) → Answer
-judged_answer (judgement.Passed p) next = next p.shape
-judged_answer (judgement.Refused n) next = refused n
+judged_answer (Ok p) next = next p.shape
+judged_answer (Err n) next = refused n
 
 abbrev pub run_answer : Outcome → Answer → Answer
-run_answer outcome.Continues next = next
-run_answer (outcome.Stops n) next = refused n
+run_answer (Ok tt) next = next
+run_answer (Err n) next = refused n
 
 -- slot return: the slots that a passed plan shows, as a file
 unfoldable pub slot_answer : (plant plan : List ℕ) → Answer
@@ -52,7 +49,7 @@ plan_answer plant slots =
     run_answer (run (plant_of f plant) (slots_of f slots)).outcome (bytes (plan_file f (run_tables (plant_of f plant) (slots_of f slots))))))
 
 -- a test behind the rows: what fails it is refused with this number
-abbrev pub test_answer : ℕ → Bool → Answer → Answer
+abbrev pub test_answer : Refusal → Bool → Answer → Answer
 test_answer n true next = next
 test_answer n false next = refused n
 
@@ -63,22 +60,25 @@ rolled_in f plant plan k rates = rolled_plant (plant_of f plant) (plan_of f plan
 -- "61 if k is not 1 to W − 1, after the plan's checks and before the rates; 62 if an owed amount exceeds the limit, after the rates and before 51"
 unfoldable pub roll_passed : Shape → (plant plan : List ℕ) (k : ℕ) (rates : List ℕ) → Answer
 roll_passed f plant plan k rates =
-    test_answer 61 (weeks_left f.weeks k)
+    test_answer refusal.WeeksLeft (weeks_left f.weeks k)
     (form_answer (rates_form f rates) (λ _.
-    test_answer 62 (backlog_carried (plant_of f plant) (plan_of f plan) k)
+    test_answer refusal.OpeningBacklog (backlog_carried (plant_of f plant) (plan_of f plan) k)
     (bytes (plant_file (rolled_in f plant plan k rates)))))
 
 unfoldable pub roll_answer : (plant plan : List ℕ) (k : ℕ) (rates : List ℕ) → Answer
 roll_answer plant plan k rates = judged_answer (judgement_of plant plan) (λ f. roll_passed f plant plan k rates)
 
 -- ---- what a call returns and leaves: 51 comes last, for an output shorter than the result
+abbrev pub Written : Type 0
+Written = Result ℕ Refusal
+
 abbrev pub length_in : Bool → ℕ → Written
-length_in true n = Length n
-length_in false n = Refused 51
+length_in true n = Ok n
+length_in false n = Err refusal.OutputLength
 
 unfoldable pub written_in : Answer → List ℕ → Written
 written_in (bytes b) out = length_in (leb (length b) (length out)) (length b)
-written_in (refused n) out = Refused n
+written_in (refused n) out = Err n
 
 -- the result, then the bytes that were there; as it was where the call refuses
 abbrev pub put_in : Bool → List ℕ → List ℕ → List ℕ

@@ -1,6 +1,6 @@
--- The contents' bytes: their lengths, and where each body begins. Assumes nothing.
+-- Entries that were read; the contents' bytes: their lengths, and where each body begins. Assumes nothing.
 use Prim.Native.Nat.{ℕ, ◌+◌, ◌*◌, ◌≤◌}
-use mathlib.Core.Path.{◌≡◌, refl, ◌∙◌}
+use mathlib.Core.Path.{◌≡◌, refl, ap, ◌∙◌}
 use mathlib.Core.List.{List, ◌++◌}
 use native.Mathlib.Omega.{arith}
 use native.Mathlib.Nat.{mul_comm, add-zero}
@@ -10,7 +10,16 @@ use Rattle.mathematics.specs.Below.{sum_below, join_below}
 use Rattle.mathematics.proofs.Below.{sum_ext, sum_const, sum_prefix}
 use Rattle.mathematics.proofs.Join.{join_length}
 use Rattle.numbers.specs.Number.{digits}
+use Rattle.contents.specs.Contents.{entry, offset, extent}
+use Rattle.contents.specs.declared.Entry.{Entry}
 use Rattle.contents.specs.File.{start, entry_bytes}
+
+-- what an entry that was read says of its section
+pub offset_read : (s : List ℕ) (i : ℕ) {e : Entry} → e ≡ entry s i → e.offset ≡ offset s i
+offset_read s i h = ap (λ (x : Entry). x.offset) h
+
+pub extent_read : (s : List ℕ) (i : ℕ) {e : Entry} → e ≡ entry s i → e.length ≡ extent s i
+extent_read s i h = ap (λ (x : Entry). x.length) h
 
 pub entry_length : (first : ℕ) (lengths : List ℕ) (i : ℕ) → length (entry_bytes first lengths i) ≡ 9
 unfolding entry_bytes

@@ -5,12 +5,12 @@ ghost use Rattle.std.specs.Prelude.{◌≡◌, ◌++◌, eqb, ◌+◌, ◌*◌, 
 ghost use Rattle.mathematics.specs.Below.{all_below, join_below};
 ghost use Rattle.numbers.specs.Number.{store, digits};
 ghost use Rattle.contents.specs.Contents.{entry_at, entry, cell, numbers_right, headed, placed, sized, Inside};
-ghost use Rattle.contents.specs.File.{entry_bytes, contents_bytes, Listable};
+ghost use Rattle.contents.specs.File.{start, entry_bytes, contents_bytes, Listable};
 
-use numbers::{and, read, read4, wide, write};
+use numbers::{read, write};
 
 // A contents entry: a section's number, and where its body starts and how long it is.
-#[derive(Clone, Copy)]
+#[derive(Clone, Copy, Debug, PartialEq, Eq)]
 pub struct Entry {
     pub number: u64,
     pub offset: u64,
@@ -25,13 +25,14 @@ pub struct Cursor<'a> {
 }
 
 // The entry that stands at a position of the file.
+#[tactic(auto, unfolding(crate::specs::Contents::entry_at))]
 fn entry_at(s: &[u8], at: usize) -> Entry
     requires { at + 9 ≤ length s.now }
     ensures { (result ≡ entry_at s.now at) × (result.number < 256) × (result.offset < 2 ^ 32) × (result.length < 2 ^ 32) }
 {
-    let number = wide(s[at]);
-    let offset = read4(s, at + 1);
-    let length = read4(s, at + 5);
+    let number = u64::from(s[at]);
+    let offset = read(s, at + 1, 4);
+    let length = read(s, at + 5, 4);
     Entry {
         number,
         offset,
@@ -39,38 +40,42 @@ fn entry_at(s: &[u8], at: usize) -> Entry
     }
 }
 
-// A cursor at the first entry.
-fn begin<'a>(src: &'a [u8]) -> Cursor<'a>
-    ensures { (result.src ≡ src.entry) × (result.at ≡ 2) }
-{
-    Cursor { src, at: 2 }
-}
+impl<'a> Cursor<'a> {
+    // A cursor at the first entry.
+    fn begin(src: &'a [u8]) -> Cursor<'a>
+        ensures { (result.src ≡ src.entry) × (result.at ≡ 2) }
+    {
+        Cursor { src, at: 2 }
+    }
 
-// The cursor past `count` entries.
-fn skip<'a>(c: Cursor<'a>, count: usize) -> Cursor<'a>
-    requires { c.at + 9 * count < 2 ^ 64 }
-    ensures { (result.src ≡ c.entry.src) × (result.at ≡ c.entry.at + 9 * count) }
-{
-    Cursor {
-        src: c.src,
-        at: c.at + 9 * count,
+    // The cursor past `count` entries.
+    fn skip(self, count: usize) -> Cursor<'a>
+        requires { self.at + 9 * count < 2 ^ 64 }
+        ensures { (result.src ≡ self.entry.src) × (result.at ≡ self.entry.at + 9 * count) }
+    {
+        Cursor {
+            src: self.src,
+            at: self.at + 9 * count,
+        }
+    }
+
+    // The entry at the cursor.
+    fn next_entry(self) -> Entry
+        requires { self.at + 9 ≤ length self.src.now }
+        ensures { (result ≡ entry_at self.entry.src.now self.entry.at) × (result.number < 256) × (result.offset < 2 ^ 32)
+            × (result.length < 2 ^ 32) }
+    {
+        entry_at(self.src, self.at)
     }
 }
 
-// The entry at the cursor.
-fn next_entry<'a>(c: Cursor<'a>) -> Entry
-    requires { c.at + 9 ≤ length c.src.now }
-    ensures { (result ≡ entry_at c.entry.src.now c.entry.at) × (result.number < 256) × (result.offset < 2 ^ 32) × (result.length < 2 ^ 32) }
-{
-    entry_at(c.src, c.at)
-}
-
 // The entry in place i of the contents: what every reader of contents calls.
+#[tactic(auto, unfolding(crate::specs::Contents::entry))]
 pub fn entry_in(s: &[u8], i: usize) -> Entry
     requires { (i < 256) × (11 + 9 * i ≤ length s.now) }
     ensures { (result ≡ entry s.now i) × (result.number < 256) × (result.offset < 2 ^ 32) × (result.length < 2 ^ 32) }
 {
-    next_entry(skip(begin(s), i))
+    Cursor::begin(s).skip(i).next_entry()
 }
 
 // Whether the sections are numbered from `first` on.
@@ -78,16 +83,7 @@ fn numbered(s: &[u8], first: u64, count: usize) -> bool
     requires { (2 + 9 * count ≤ length s.now) × (count < 256) × (first < 256) }
     ensures { result ≡ all_below count (λ i. eqb (entry s.now i).number (first + i)) }
 {
-    let mut ok = true;
-    let mut number = first;
-    let mut i = 0;
-    while i < count {
-        let e = entry_in(s, i);
-        ok = and(ok, e.number == number);
-        number += 1;
-        i += 1;
-    }
-    ok
+    (0..count).all(|i| entry_in(s, i).number == first + i as u64)
 }
 
 // Kind, count of sections and their numbers, of a file that is long enough for its contents.
@@ -95,22 +91,16 @@ fn has_numbers(s: &[u8], kind: u64, first: u64, count: usize) -> bool
     requires { (2 + 9 * count ≤ length s.now) × (count < 256) × (first < 256) }
     ensures { result ≡ numbers_right s.now kind first count }
 {
-    and(
-        wide(s[0]) == kind,
-        and(numbers::as_usize(s[1]) == count, numbered(s, first, count)),
-    )
+    u64::from(s[0]) == kind && usize::from(s[1]) == count && numbered(s, first, count)
 }
 
 // Rows 1, 11 and 21.
+#[tactic(auto, unfolding(crate::specs::Contents::headed))]
 pub fn is_headed(s: &[u8], kind: u64, first: u64, count: usize) -> bool
     requires { (count < 256) × (first < 256) }
     ensures { result ≡ headed s.now kind first count }
 {
-    if 2 + 9 * count <= s.len() {
-        has_numbers(s, kind, first, count)
-    } else {
-        false
-    }
+    2 + 9 * count <= s.len() && has_numbers(s, kind, first, count)
 }
 
 // Rows 2, 12 and 22.
@@ -118,16 +108,15 @@ pub fn is_placed(s: &[u8], count: usize) -> bool
     requires { (2 + 9 * count ≤ length s.now) × (count < 256) }
     ensures { result ≡ placed s.now count }
 {
-    let mut ok = true;
     let mut end = (2 + 9 * count) as u64;
-    let mut i = 0;
-    while i < count {
+    for i in 0..count {
         let e = entry_in(s, i);
-        ok = and(ok, e.offset == end);
-        end = e.offset + e.length;
-        i += 1;
+        if e.offset != end {
+            return false;
+        }
+        end += e.length;
     }
-    and(ok, end == s.len() as u64)
+    end == s.len() as u64
 }
 
 // Rows 4, 13 and 23.
@@ -135,17 +124,11 @@ pub fn is_sized(s: &[u8], lengths: &[u64]) -> bool
     requires { (2 + 9 * length lengths.now ≤ length s.now) × (length lengths.now < 256) }
     ensures { result ≡ sized s.now lengths.now }
 {
-    let mut ok = true;
-    let mut i = 0;
-    while i < lengths.len() {
-        let e = entry_in(s, i);
-        ok = and(ok, e.length == lengths[i]);
-        i += 1;
-    }
-    ok
+    (0..lengths.len()).all(|i| entry_in(s, i).length == lengths[i])
 }
 
 // Number j of those of k bytes that section i holds.
+#[tactic(auto, unfolding(crate::specs::Contents::cell))]
 pub fn cell_in(s: &[u8], i: usize, k: usize, j: usize) -> u64
     requires { Inside s.now i k j }
     ensures { result ≡ cell k s.now i j }
@@ -153,6 +136,18 @@ pub fn cell_in(s: &[u8], i: usize, k: usize, j: usize) -> u64
     let e = entry_in(s, i);
     let at = e.offset as usize;
     read(s, at + k * j, k)
+}
+
+// Where the body in a place begins, of bodies with these lengths; after the last place, where the file ends.
+pub fn section_start(lengths: &[u64], place: usize) -> usize
+    requires { (place ≤ length lengths.now) × (start lengths.now (length lengths.now) < 2 ^ 32) }
+    ensures { (result ≡ start lengths.now place) × (result < 2 ^ 32) }
+{
+    let mut at = 2 + 9 * lengths.len();
+    for i in 0..place {
+        at += lengths[i] as usize;
+    }
+    at
 }
 
 // Stores an entry at the start of what is lent.
@@ -172,15 +167,12 @@ fn write_entries(out: &mut [u8], first: u64, lengths: &[u64])
 {
     let mut number = first;
     let mut offset = (2 + 9 * lengths.len()) as u64;
-    let mut p = 0;
-    let mut i = 0;
-    while i < lengths.len() {
-        let extent = lengths[i];
-        write_entry(&mut out[p..], number, offset, extent);
+    let mut place = 0;
+    for &extent in lengths {
+        write_entry(&mut out[place..], number, offset, extent);
         number += 1;
         offset += extent;
-        p += 9;
-        i += 1;
+        place += 9;
     }
 }
 

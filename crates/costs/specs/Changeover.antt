@@ -3,8 +3,8 @@ use Rattle.std.specs.Prelude.{ℕ, ◌≤◌, ◌≡◌}
 use Rattle.sections.specs.Limits.{most_changeover_minutes, most_changeover_cents}
 use Rattle.units.specs.declared.Changeover.{Changeover}
 use Rattle.plant_file.specs.Plant.{LinePlant}
-use Rattle.costs.specs.declared.Mounted.{Mounted}
-use Rattle.costs.specs.declared.Mounted.TheVariants.{Nothing, Product}
+use Rattle.std.specs.Prelude.{None, Some}
+use Rattle.costs.specs.Mounted.{Mounted}
 
 -- the lookup of a changeover from one product to another, in a line's minutes or its cents: for the clock, the profit and rules 36 and 41
 unfoldable pub changeover_between : (table : ℕ → ℕ → ℕ) (from to : ℕ) → ℕ
@@ -12,8 +12,8 @@ changeover_between table from to = table from to
 
 -- the changeover from what is mounted to a product, in a table of the line; from nothing there is none
 abbrev pub changeover_to : (table : ℕ → ℕ → ℕ) → Mounted → ℕ → ℕ
-changeover_to table Nothing p = 0
-changeover_to table (Product q) p = changeover_between table q p
+changeover_to table None p = 0
+changeover_to table (Some q) p = changeover_between table q p
 
 -- a changeover as it was looked up, and its ranges
 pub record LookedUp (line : LinePlant) (from : Mounted) (product : ℕ) (r : Changeover) : Type 0 where

@@ -12,7 +12,7 @@ use Rattle.mathematics.specs.Order.{first_in}
 use Rattle.mathematics.proofs.Below.{and_false, is_eq}
 use Rattle.numbers.specs.Number.{Bytes}
 use Rattle.sections.specs.declared.Shape.{Shape}
-use Rattle.sections.specs.declared.Form.TheVariants.{Good}
+use Rattle.std.specs.Prelude.{Ok, Some}
 use Rattle.plant_file.specs.Plant.{plant_of, mounted_in, shut_before_in}
 use Rattle.plant_file.specs.Form.{mounted_known, mounted_in_range, plant_form}
 use Rattle.plant_file.specs.Ranges.{PlantRanges}
@@ -22,7 +22,6 @@ use Rattle.plant_file.proofs.SamePlantFiles.{section_bytes, same_numbers}
 use Rattle.plant_file.proofs.PlantInRange.{plant_ranges}
 use Rattle.plan_file.specs.Plan.{Plan, plan_of}
 use Rattle.slot_file.specs.Slots.{order_of_slots, slots_of}
-use Rattle.costs.specs.declared.Mounted.TheVariants.{Product}
 use Rattle.costs.specs.Mounted.{opening_mounted}
 use Rattle.costs.specs.Changeover.{changeover_between}
 use Rattle.costs.proofs.Changeovers.{opening_below}
@@ -52,7 +51,7 @@ first_is : (ps : List ℕ) (q : ℕ) → first_in ps q ≡ 1 → (j : ℕ) → f
 first_is [] q e j = absurd (omega arith)
 first_is (p ∷ ps) q e j = ap (λ (k : ℕ). is k j) (is_eq p q (omega arith))
 
-module _ (plant : List ℕ) (f : Shape) (accepted : plant_form plant ≡ Good f) (plan : List ℕ) (b : Bytes plan)
+module _ (plant : List ℕ) (f : Shape) (accepted : plant_form plant ≡ Ok f) (plan : List ℕ) (b : Bytes plan)
     (slots : List ℕ) (s : State) (gives : GivesFile plant f slots s plan) where
   abbrev X : Plan
   X = plan_of f plan
@@ -66,7 +65,7 @@ module _ (plant : List ℕ) (f : Shape) (accepted : plant_form plant ≡ Good f)
       let a = plan_agree R (given plant f accepted plan b slots s gives) w l in
       a.first j h ∙ first_is (order_of_slots ((slots_of f slots).line.week w)) q (sym (a.first q k) ∙ e) j
 
-  first_changeover : (p : ℕ) → opening_mounted (plant_of f plant).line ≡ Product p → (w : ℕ) → w < f.weeks → EarlierShut f X w
+  first_changeover : (p : ℕ) → opening_mounted (plant_of f plant).line ≡ Some p → (w : ℕ) → w < f.weeks → EarlierShut f X w
       → (q : ℕ) → q < f.products → X.line.first w q ≡ 1 → (table : ℕ → ℕ → ℕ)
       → changeovers_in f.products table X.line w ≡ changeovers_under f.products table (X.line.changeover w) + changeover_between table p q
   unfolding changeovers_in changeovers_under
@@ -76,17 +75,17 @@ module _ (plant : List ℕ) (f : Shape) (accepted : plant_form plant ≡ Good f)
       (grid_ext f.products f.products (λ i j. X.line.week_changeover w i j * t i j) (λ i j. is p i * is q j * t i j)
       (λ i j h m.
       ap (λ (z : ℕ). z * t i j)
-      (opening_passage plant f accepted plan b slots s gives (Product p) o w l earlier i j h m
+      (opening_passage plant f accepted plan b slots s gives (Some p) o w l earlier i j h m
       ∙ ap (λ (z : ℕ). is p i * z) (first_mark w q l k e j m)))
-      ∙ one_changeover f.products table (Product p) q (rw o at (opening_below f.products (plant_of f plant).line R.line)) k)
+      ∙ one_changeover f.products table (Some p) q (rw o at (opening_below f.products (plant_of f plant).line R.line)) k)
 
 -- ---- an accepted plant file
 -- a plan that passes has slots that give it
-given_slots : (plant : List ℕ) (f : Shape) → plant_form plant ≡ Good f → (plan : List ℕ) → Passes plant plan
+given_slots : (plant : List ℕ) (f : Shape) → plant_form plant ≡ Ok f → (plan : List ℕ) → Passes plant plan
     → (slots : List ℕ) × (s : State) × GivesFile plant f slots s plan
 given_slots plant f accepted plan h = (third_demand plant f accepted plan h.bytes).passes_exactly.0 (h.profit, h.passed)
 
-pub opening_mounted_lem : (plant : List ℕ) (f : Shape) → plant_form plant ≡ Good f → OpeningMounted plant f
+pub opening_mounted_lem : (plant : List ℕ) (f : Shape) → plant_form plant ≡ Ok f → OpeningMounted plant f
 unfolding opening opening_mounted mounted_in shut_before_in mounted_in_range
 opening_mounted_lem plant f accepted =
     let R = plant_ranges plant f accepted in
@@ -103,7 +102,7 @@ opening_mounted_lem plant f accepted =
           first_changeover plant f accepted plan h.bytes r.0 r.1 r.2;
       first_passage = λ plan h p.
           let r = given_slots plant f accepted plan h in
-          opening_passage plant f accepted plan h.bytes r.0 r.1 r.2 (Product p);
+          opening_passage plant f accepted plan h.bytes r.0 r.1 r.2 (Some p);
       kind_one = λ e. (rw (has_none f.kind e) refl, rw (has_none f.kind e) refl);
       outside_is_5 = λ t h l i z o. outside_refused t h l i z (outside _ _ _ o);
       opening_mounted_lem = λ l. rw (ne_eqb (plant_of f plant).line.mounted 255 (λ e. absurd (omega (arith, l, e, R.products_most)))) refl;

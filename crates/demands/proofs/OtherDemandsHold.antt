@@ -1,4 +1,6 @@
 -- The first and the second demand hold. Assumes nothing.
+use Rattle.sections.specs.declared.Refusal.{Refusal}
+use Rattle.sections.specs.declared.Refusal.TheVariants as refusal
 use Prim.Native.Nat.{ℕ}
 use mathlib.Core.Path.{◌≡◌, refl, ap}
 use mathlib.Core.Logic.{◌↔◌}
@@ -6,7 +8,7 @@ use mathlib.Core.List.{List}
 use native.Mathlib.Omega.{arith}
 use Rattle.numbers.specs.Number.{Bytes}
 use Rattle.sections.specs.declared.Shape.{Shape}
-use Rattle.sections.specs.declared.Form.TheVariants as form
+use Rattle.std.specs.Prelude.{Err, Ok}
 use Rattle.plant_file.specs.Form.{plant_form}
 use Rattle.plant_file.proofs.PlantInRange.{plant_ranges}
 use Rattle.plan_file.specs.Plan.{plan_of}
@@ -14,11 +16,7 @@ use Rattle.plan_file.specs.Form.{plan_form}
 use Rattle.plan_file.proofs.PlanReads.{plan_fits}
 use Rattle.model.proofs.Agreement.{fits_binary}
 use Rattle.model.proofs.ModelTheorem.{model_rules, passed_objective}
-use Rattle.passed_plan.specs.declared.Judgement.{Judgement}
-use Rattle.passed_plan.specs.declared.Judgement.TheVariants as judgement
-use Rattle.passed_plan.specs.Judgement.{plan_judgement, judgement_of}
-use Rattle.calls.specs.declared.Check.TheVariants as check
-use Rattle.calls.specs.declared.Written.TheVariants as written
+use Rattle.passed_plan.specs.Judgement.{Judgement, plan_judgement, judgement_of}
 use Rattle.calls.specs.Check.{check_from, check_of}
 use Rattle.calls.specs.Answer.{Answer, bytes, refused, judged_answer, slot_answer, plan_answer, written_in, output_after}
 use Rattle.calls.proofs.Output.{too_short, refused_short}
@@ -27,11 +25,11 @@ use Rattle.demands.specs.SecondDemand.{SecondDemand}
 use Rattle.demands.proofs.ThirdDemandHolds.{check_passing, passing_check}
 
 -- one judgement refuses both with one number
-judged_alike : (j : Judgement) (file : Shape → List ℕ) (n : ℕ)
-    → (check_from j ≡ check.Refused n) ↔ (judged_answer j (λ f. bytes (file f)) ≡ refused n)
-judged_alike (judgement.Passed p) file n =
+judged_alike : (j : Judgement) (file : Shape → List ℕ) (n : Refusal)
+    → (check_from j ≡ Err n) ↔ (judged_answer j (λ f. bytes (file f)) ≡ refused n)
+judged_alike (Ok p) file n =
     (λ e. absurd (let z : ◌≡◌ {A = ℕ} 0 1 = cc in omega arith), λ e. absurd (let z : ◌≡◌ {A = ℕ} 0 1 = cc in omega arith))
-judged_alike (judgement.Refused m) file n = (λ e. let i : m ≡ n = cc in ap refused i, λ e. let i : m ≡ n = cc in ap check.Refused i)
+judged_alike (Err m) file n = (λ e. let i : m ≡ n = cc in ap refused i, λ e. let i : m ≡ n = cc in ap Err i)
 
 pub first_demand : (plant plan slots : List ℕ) → FirstDemand plant plan slots
 unfolding check_of slot_answer plan_answer judgement_of plan_judgement
@@ -46,7 +44,7 @@ first_demand plant plan slots =
     }
 
 -- ---- a refusal leaves the output
-kept : (a : Answer) (out : List ℕ) (n : ℕ) → written_in a out ≡ written.Refused n → output_after a out ≡ out
+kept : (a : Answer) (out : List ℕ) (n : Refusal) → written_in a out ≡ Err n → output_after a out ≡ out
 unfolding output_after
 kept (bytes b) out n e = (too_short b out (refused_short b out n e)).1
 kept (refused m) out n e = refl
@@ -56,11 +54,11 @@ unfolding written_in
 refusals_keep answer out =
     record {
       returned = λ n e. rw e;
-      too_short = λ b e. rw e (λ h. omega (arith, refused_short b out 51 h), λ h. (too_short b out (omega arith)).0);
+      too_short = λ b e. rw e (λ h. omega (arith, refused_short b out refusal.OutputLength h), λ h. (too_short b out (omega arith)).0);
       untouched = kept answer out;
     }
 
-pub second_demand : (plant : List ℕ) (f : Shape) (plan : List ℕ) → Bytes plan → plant_form plant ≡ form.Good f → plan_form f plan ≡ form.Good f
+pub second_demand : (plant : List ℕ) (f : Shape) (plan : List ℕ) → Bytes plan → plant_form plant ≡ Ok f → plan_form f plan ≡ Ok f
     → SecondDemand plant f plan
 second_demand plant f plan b accepted good =
     let R = plant_ranges plant f accepted in

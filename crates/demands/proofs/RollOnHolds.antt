@@ -1,4 +1,5 @@
 -- Request 2026-03 holds: what rolling on refuses, and the file that it writes. Assumes nothing.
+use Rattle.sections.specs.declared.Refusal.{Refusal}
 use Prim.Native.Nat.{ℕ, zero, suc, ◌+◌, ◌*◌, ◌-◌, ◌≤◌, ◌<◌}
 use mathlib.Core.Path.{◌≡◌, refl, sym, ap, ◌∙◌}
 use mathlib.Core.Logic.{◌↔◌, ◌⊎◌, ◌≢◌, inl, inr}
@@ -14,8 +15,8 @@ use Rattle.mathematics.specs.Order.{order_tables, Agree}
 use Rattle.mathematics.proofs.Below.{and_false, all_fails}
 use Rattle.mathematics.proofs.OrderTheorem.{agree_shut, agree_not_shut}
 use Rattle.sections.specs.declared.Shape.{Shape}
-use Rattle.sections.specs.declared.Form.{Form}
-use Rattle.sections.specs.declared.Form.TheVariants as form
+use Rattle.std.specs.Prelude.{Err, Ok}
+use Rattle.sections.specs.Rows.{Form}
 use Rattle.sections.specs.Limits.{most_rate, most_storage}
 use Rattle.plant_file.specs.Plant.{Plant, plant_of}
 use Rattle.plant_file.specs.Form.{plant_form}
@@ -42,38 +43,36 @@ use Rattle.model.proofs.RunStates.{mounted_below_lem}
 use Rattle.model.proofs.RuleFacts.{amounts_of}
 use Rattle.model.proofs.GivenPlans.{plan_agree, given_rules, given_inventory, given_backlog, given_mounted}
 use Rattle.model.proofs.Widths.{shown_fit}
-use Rattle.passed_plan.specs.declared.Judgement.{Judgement}
-use Rattle.passed_plan.specs.declared.Judgement.TheVariants as judgement
-use Rattle.passed_plan.specs.Judgement.{judgement_of}
+use Rattle.passed_plan.specs.Judgement.{Judgement, judgement_of}
 use Rattle.passed_plan.specs.Shown.{shown_in}
 use Rattle.passed_plan.proofs.PassedPlan.{Passing, passing_judged, PassedPlan, passed_plan}
-use Rattle.calls.specs.declared.Check.TheVariants as check
 use Rattle.calls.specs.Check.{check_from, check_of}
 use Rattle.calls.specs.Answer.{Answer, bytes, refused, form_answer, judged_answer, test_answer, roll_passed, roll_answer}
 use Rattle.demands.specs.OpeningMounted.{Passes}
 use Rattle.demands.specs.RollOn.{RatesInRange, RollRefused, RolledOn, RollOn, OpeningBacklog, RollingOn}
 use Rattle.demands.proofs.ThirdDemandHolds.{check_passing}
 use Rattle.demands.proofs.RolledRuns.{opens_mounted, runs_on}
+use Rattle.sections.specs.declared.Refusal.TheVariants as refusal
 
 -- ---- answers of bytes, by their tests
-test_bytes : (n : ℕ) (t : Bool) (next : Answer) (b : List ℕ) → test_answer n t next ≡ bytes b → (t ≡ true) × (next ≡ bytes b)
+test_bytes : (n : Refusal) (t : Bool) (next : Answer) (b : List ℕ) → test_answer n t next ≡ bytes b → (t ≡ true) × (next ≡ bytes b)
 test_bytes n true next b e = (refl, e)
 test_bytes n false next b e = absurd (let z : ◌≡◌ {A = ℕ} 0 1 = cc in omega arith)
 
-form_bytes : (r : Form) (next : Answer) (b : List ℕ) → form_answer r (λ _. next) ≡ bytes b → ((g : Shape) × (r ≡ form.Good g)) × (next ≡ bytes b)
-form_bytes (form.Good g) next b e = ((g, refl), e)
-form_bytes (form.Refused n) next b e = absurd (let z : ◌≡◌ {A = ℕ} 0 1 = cc in omega arith)
+form_bytes : (r : Form) (next : Answer) (b : List ℕ) → form_answer r (λ _. next) ≡ bytes b → ((g : Shape) × (r ≡ Ok g)) × (next ≡ bytes b)
+form_bytes (Ok g) next b e = ((g, refl), e)
+form_bytes (Err n) next b e = absurd (let z : ◌≡◌ {A = ℕ} 0 1 = cc in omega arith)
 
-judged_refused : (j : Judgement) (next : Shape → Answer) (n : ℕ) → check_from j ≡ check.Refused n → judged_answer j next ≡ refused n
-judged_refused (judgement.Passed p) next n e = absurd (let z : ◌≡◌ {A = ℕ} 0 1 = cc in omega arith)
-judged_refused (judgement.Refused m) next n e = let i : m ≡ n = cc in ap refused i
+judged_refused : (j : Judgement) (next : Shape → Answer) (n : Refusal) → check_from j ≡ Err n → judged_answer j next ≡ refused n
+judged_refused (Ok p) next n e = absurd (let z : ◌≡◌ {A = ℕ} 0 1 = cc in omega arith)
+judged_refused (Err m) next n e = let i : m ≡ n = cc in ap refused i
 
 rate_outside : (r : ℕ) → (r ≡ 0) ⊎ (100000 < r) → within 1 most_rate r ≡ false
 rate_outside r (inl h) = rw (lt-leb 1 r (omega arith)) refl
 rate_outside r (inr h) = rw (lt-leb r most_rate h) (and_false (leb 1 r))
 
 -- ---- a plan that passes
-module _ (plant : List ℕ) (f : Shape) (accepted : plant_form plant ≡ form.Good f) (plan : List ℕ) (h : Passes plant plan) where
+module _ (plant : List ℕ) (f : Shape) (accepted : plant_form plant ≡ Ok f) (plan : List ℕ) (h : Passes plant plan) where
   abbrev P : Plant
   P = plant_of f plant
 
@@ -101,17 +100,17 @@ module _ (plant : List ℕ) (f : Shape) (accepted : plant_form plant ≡ form.Go
     judged = rw (passing_judged plant plan f h.profit passing)
 
     -- ---- its refusals
-    outside : (k ≡ 0) ⊎ (f.weeks ≤ k) → roll_answer plant plan k rates ≡ refused 61
+    outside : (k ≡ 0) ⊎ (f.weeks ≤ k) → roll_answer plant plan k rates ≡ refused refusal.WeeksLeft
     unfolding roll_passed
     outside e = judged ∙ rw (none_left f.weeks k e) refl
 
     module _ (some : 1 ≤ k) (left : k < f.weeks) where
-      wrong_list : length rates ≢ 4 * f.products → roll_answer plant plan k rates ≡ refused 4
+      wrong_list : length rates ≢ 4 * f.products → roll_answer plant plan k rates ≡ refused refusal.PlantLengths
       unfolding roll_passed rates_form
       wrong_list e = judged ∙ rw (is_left f.weeks k some left, ne_eqb (length rates) (4 * f.products) e) refl
 
       wrong_rate : length rates ≡ 4 * f.products → (i : ℕ) → i < f.products → (listed_rate rates i ≡ 0) ⊎ (100000 < listed_rate rates i)
-          → roll_answer plant plan k rates ≡ refused 5
+          → roll_answer plant plan k rates ≡ refused refusal.PlantRanges
       unfolding roll_passed rates_form
       wrong_rate e i l o =
           judged
@@ -122,14 +121,14 @@ module _ (plant : List ℕ) (f : Shape) (accepted : plant_form plant ≡ form.Go
           ) refl
 
       module _ (long : length rates ≡ 4 * f.products) (inside : RatesInRange f.products rates) where
-        good : rates_form f rates ≡ form.Good f
+        good : rates_form f rates ≡ Ok f
         good = rates_pass f rates long inside
 
         -- the backlog after week k
         backlog_is : (c i : ℕ) → backlog_before P X k c i ≡ X.backlog c i (k - 1)
         backlog_is c i = ap (λ (table : ℕ → ℕ → ℕ). table c i) (backlog_after_lem P X k some)
 
-        too_much : (c i : ℕ) → c < f.customers → i < f.products → 1600000000 < X.backlog c i (k - 1) → roll_answer plant plan k rates ≡ refused 62
+        too_much : (c i : ℕ) → c < f.customers → i < f.products → 1600000000 < X.backlog c i (k - 1) → roll_answer plant plan k rates ≡ refused refusal.OpeningBacklog
         unfolding roll_passed
         too_much c i j l o =
             judged ∙ rw (is_left f.weeks k some left, good, not_carried P X k c i j l (omega (arith, backlog_is c i))) refl
@@ -143,13 +142,13 @@ module _ (plant : List ℕ) (f : Shape) (accepted : plant_form plant ≡ form.Go
 
     -- ---- the file that it writes
     module _ (new : List ℕ) (answer : roll_answer plant plan k rates ≡ bytes new) where
-      tests : (weeks_left f.weeks k ≡ true) × ((g : Shape) × (rates_form f rates ≡ form.Good g)) × (backlog_carried P X k ≡ true)
+      tests : (weeks_left f.weeks k ≡ true) × ((g : Shape) × (rates_form f rates ≡ Ok g)) × (backlog_carried P X k ≡ true)
           × (plant_file (rolled_plant P X k (listed_rate rates)) ≡ new)
       unfolding roll_passed
       tests =
-          let a = test_bytes 61 (weeks_left f.weeks k) _ new (sym judged ∙ answer) in
+          let a = test_bytes refusal.WeeksLeft (weeks_left f.weeks k) _ new (sym judged ∙ answer) in
           let b = form_bytes (rates_form f rates) _ new a.1 in
-          let d = test_bytes 62 (backlog_carried P X k) _ new b.1 in
+          let d = test_bytes refusal.OpeningBacklog (backlog_carried P X k) _ new b.1 in
           let e = d.1 in
           (a.0, b.0, d.0, cc)
 
@@ -216,7 +215,7 @@ module _ (plant : List ℕ) (f : Shape) (accepted : plant_form plant ≡ form.Go
             week_most = R.week_most;
           }
 
-      good_file : plant_form new ≡ form.Good (rolled_shape f k)
+      good_file : plant_form new ≡ Ok (rolled_shape f k)
       unfolding rolled_plant
       good_file = rw tests.3 at (plant-file.file_good rolled ranges)
 
@@ -310,7 +309,7 @@ module _ (plant : List ℕ) (f : Shape) (accepted : plant_form plant ≡ form.Go
           }
 
 -- ---- an accepted plant file and any plan
-roll_refused : (plant : List ℕ) (f : Shape) → plant_form plant ≡ form.Good f → (plan : List ℕ) (k : ℕ) (rates : List ℕ)
+roll_refused : (plant : List ℕ) (f : Shape) → plant_form plant ≡ Ok f → (plan : List ℕ) (k : ℕ) (rates : List ℕ)
     → RollRefused plant f plan k rates
 roll_refused plant f accepted plan k rates =
     record {
@@ -321,7 +320,7 @@ roll_refused plant f accepted plan k rates =
       otherwise = λ h a b. written plant f accepted plan h k rates a b;
     }
 
-opening_backlog : (plant : List ℕ) (f : Shape) → plant_form plant ≡ form.Good f → OpeningBacklog plant f
+opening_backlog : (plant : List ℕ) (f : Shape) → plant_form plant ≡ Ok f → OpeningBacklog plant f
 unfolding plant_kind
 opening_backlog plant f accepted =
     record {

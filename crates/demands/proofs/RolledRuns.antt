@@ -15,9 +15,8 @@ use Rattle.plant_file.specs.Ranges.{PlantRanges}
 use Rattle.plan_file.specs.Plan.{Plan, Same2}
 use Rattle.slot_file.specs.Slots.{Slot, order_of_slots, WeekFormed, Slots, SameSlots}
 use Rattle.slot_file.proofs.Orders.{order_below}
-use Rattle.costs.specs.declared.Mounted.{Mounted}
-use Rattle.costs.specs.declared.Mounted.TheVariants.{Product}
-use Rattle.costs.specs.Mounted.{mounted_below, opening_mounted, mounted_number}
+use Rattle.std.specs.Prelude.{Some}
+use Rattle.costs.specs.Mounted.{Mounted, mounted_below, opening_mounted, mounted_number}
 use Rattle.costs.proofs.Changeovers.{opening_number}
 use Rattle.costs.specs.Money.{revenue_of, backlog_charge_of, inventory_charge_of, changeover_charge_of}
 use Rattle.machine.specs.declared.State.{State}
@@ -45,7 +44,7 @@ total_same : {N : ℕ} {a b : ℕ → ℕ → ℕ} → Same2 N N a b → (m : Mo
 total_same e m [] h k = refl
 total_same e m (p ∷ ps) h k =
     let known = k 0 (omega arith) in
-    λ u. to_same e m p h known u + total_same e (Product p) ps known (λ v l. k (suc v) (omega arith)) u
+    λ u. to_same e m p h known u + total_same e (Some p) ps known (λ v l. k (suc v) (omega arith)) u
 
 -- two states from which a week goes alike, of plants for N products and C customers: the same but for the clock, which the week sets to 0
 record SameWeekStart (N C : ℕ) (a b : State) : Type 0 where

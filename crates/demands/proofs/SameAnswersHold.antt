@@ -8,8 +8,9 @@ use Rattle.mathematics.proofs.Tables.{all_ext}
 use Rattle.numbers.specs.Number.{Bytes}
 use Rattle.sections.specs.Limits.{most_opening_backlog}
 use Rattle.sections.specs.declared.Shape.{Shape}
-use Rattle.sections.specs.declared.Form.{Form}
-use Rattle.sections.specs.declared.Form.TheVariants as form
+use Rattle.std.specs.Prelude.{Err, Ok}
+use Rattle.sections.specs.Rows.{Form}
+use Rattle.rules.specs.Verdict.{Verdict}
 use Rattle.plant_file.specs.Same.{SamePlant}
 use Rattle.plant_file.specs.Plant.{plant_of}
 use Rattle.plant_file.specs.Form.{plant_form}
@@ -25,13 +26,10 @@ use Rattle.slot_file.specs.File.{slot_file}
 use Rattle.slot_file.proofs.SlotReads.{slots_formed, slot_shape}
 use Rattle.costs.specs.Mounted.{mounted_number}
 use Rattle.machine.specs.Run.{run}
-use Rattle.rules.specs.declared.Verdict.{Verdict}
 use Rattle.rules.specs.Rules.{production_end, mounted_before}
 use Rattle.model.specs.RunTables.{mounted_of, run_tables}
 use Rattle.model.specs.Rolled.{weeks_left, backlog_carried, rolled_plant}
-use Rattle.passed_plan.specs.declared.Judgement.{Judgement}
-use Rattle.passed_plan.specs.declared.Judgement.TheVariants as judgement
-use Rattle.passed_plan.specs.Judgement.{after_rows, after_rules, plan_judgement, judgement_of}
+use Rattle.passed_plan.specs.Judgement.{Judgement, after_rows, after_rules, plan_judgement, judgement_of}
 use Rattle.passed_plan.specs.Shown.{shown_in}
 use Rattle.passed_plan.proofs.PassedPlan.{judged_passing, passed_plan}
 use Rattle.calls.specs.Check.{check_from, check_of}
@@ -40,8 +38,9 @@ use Rattle.report.specs.Report.{first_line, lines_of, report_text}
 use Rattle.demands.specs.OpeningMounted.{SameAnswers}
 use Rattle.demands.proofs.SameVerdicts.{mounted_same, backlog_before_same, inventory_before_same, verdict_same}
 use Rattle.demands.proofs.SamePlants.{same_run, same_tables, same_lines}
+use Rattle.sections.specs.declared.Refusal.TheVariants as refusal
 
-module _ (f : Shape) (a b : List ℕ) (good : plant_form a ≡ form.Good f) (other : plant_form b ≡ form.Good f)
+module _ (f : Shape) (a b : List ℕ) (good : plant_form a ≡ Ok f) (other : plant_form b ≡ Ok f)
     (same : SamePlant (plant_of f a) (plant_of f b)) where
   judged_same : (plan : List ℕ) → judgement_of a plan ≡ judgement_of b plan
   unfolding judgement_of plan_judgement
@@ -50,8 +49,8 @@ module _ (f : Shape) (a b : List ℕ) (good : plant_form a ≡ form.Good f) (oth
 
   -- the lines of a plan that passes are those of its slots
   lines_same : (plan : List ℕ) → Bytes plan → (j : Judgement) → judgement_of a plan ≡ j → lines_of j a plan ≡ lines_of j b plan
-  lines_same plan t (judgement.Refused n) e = refl
-  lines_same plan t (judgement.Passed p) e =
+  lines_same plan t (Err n) e = refl
+  lines_same plan t (Ok p) e =
       let h = judged_passing a plan p e in
       let alike = h.plant_good in
       let s : p.shape ≡ f = cc in
@@ -64,9 +63,9 @@ module _ (f : Shape) (a b : List ℕ) (good : plant_form a ≡ form.Good f) (oth
       go : (r : Form) → slot_form f slots ≡ r
           → form_answer r (λ _. run_answer (run (plant_of f a) (slots_of f slots)).outcome (bytes (plan_file f (run_tables (plant_of f a) (slots_of f slots)))))
           ≡ form_answer r (λ _. run_answer (run (plant_of f b) (slots_of f slots)).outcome (bytes (plan_file f (run_tables (plant_of f b) (slots_of f slots)))))
-      go (form.Refused n) e = refl
-      go (form.Good g) e =
-          let formed = slots_formed f slots (e ∙ ap form.Good (slot_shape f g slots e)) in
+      go (Err n) e = refl
+      go (Ok g) e =
+          let formed = slots_formed f slots (e ∙ ap Ok (slot_shape f g slots e)) in
           let step = same_run f a b same good (slots_of f slots) formed in
           let file = same_file f _ _ (same_tables f a b same good (slots_of f slots) formed) in
           λ u. run_answer (step u).outcome (bytes (file u))
@@ -99,7 +98,7 @@ module _ (f : Shape) (a b : List ℕ) (good : plant_form a ≡ form.Good f) (oth
       let carried = all_ext f.customers _ _ (λ c j. all_ext f.products _ _ (λ i l u.
       leb (backlog_before_same f a b same x k c i j l u) most_opening_backlog)) in
       let file = same-plant-file _ _ refl (rolled_same x k (listed_rate rates)) refl in
-      λ u. test_answer 61 (weeks_left f.weeks k) (form_answer (rates_form f rates) (λ _. test_answer 62 (carried u) (bytes (file u))))
+      λ u. test_answer refusal.WeeksLeft (weeks_left f.weeks k) (form_answer (rates_form f rates) (λ _. test_answer refusal.OpeningBacklog (carried u) (bytes (file u))))
 
   roll_same : (plan : List ℕ) (k : ℕ) (rates : List ℕ) → roll_answer a plan k rates ≡ roll_answer b plan k rates
   unfolding roll_answer
@@ -108,8 +107,8 @@ module _ (f : Shape) (a b : List ℕ) (good : plant_form a ≡ form.Good f) (oth
     where
       go : (j : Judgement) → judgement_of b plan ≡ j
           → judged_answer j (λ g. roll_passed g a plan k rates) ≡ judged_answer j (λ g. roll_passed g b plan k rates)
-      go (judgement.Refused n) e = refl
-      go (judgement.Passed p) e =
+      go (Err n) e = refl
+      go (Ok p) e =
           let alike = (judged_passing b plan p e).plant_good in
           let s : p.shape ≡ f = cc in
           rw s (passed_same plan k rates)

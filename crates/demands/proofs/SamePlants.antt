@@ -11,7 +11,7 @@ use Rattle.mathematics.proofs.Below.{sum_ext}
 use Rattle.mathematics.proofs.Tables.{all_ext}
 use Rattle.mathematics.proofs.Join.{join_ext}
 use Rattle.sections.specs.declared.Shape.{Shape}
-use Rattle.sections.specs.declared.Form.TheVariants.{Good}
+use Rattle.std.specs.Prelude.{Err, None, Ok, Some}
 use Rattle.plant_file.specs.Same.{SamePlant}
 use Rattle.plant_file.specs.Plant.{Plant, plant_of}
 use Rattle.plant_file.specs.Form.{plant_form}
@@ -19,15 +19,11 @@ use Rattle.plant_file.proofs.PlantInRange.{plant_ranges}
 use Rattle.plan_file.specs.Plan.{Same2, SamePlan}
 use Rattle.slot_file.specs.Slots.{Slot, order_of_slots, Slots}
 use Rattle.slot_file.proofs.Orders.{order_below}
-use Rattle.costs.specs.declared.Mounted.{Mounted}
-use Rattle.costs.specs.declared.Mounted.TheVariants.{Nothing, Product}
-use Rattle.costs.specs.Mounted.{is_mounted, mounted_below, opening_mounted}
+use Rattle.costs.specs.Mounted.{Mounted, is_mounted, mounted_below, opening_mounted}
 use Rattle.costs.specs.Changeover.{changeover_between, changeover_to}
-use Rattle.machine.specs.declared.Outcome.{Outcome}
-use Rattle.machine.specs.declared.Outcome.TheVariants.{Continues, Stops}
 use Rattle.machine.specs.declared.State.{State}
-use Rattle.machine.specs.declared.Step.{Step}
-use Rattle.machine.specs.State.{inventory_of, backlog_of, with_line, with_week, with_mounted, first_met, stepped, and_then}
+use Rattle.machine.specs.State.{Step}
+use Rattle.machine.specs.State.{Outcome, inventory_of, backlog_of, with_line, with_week, with_mounted, first_met, stepped, and_then}
 use Rattle.machine.specs.Machine.{week_begin, clock_after, slot_done, slot_stops, slot_step, WeekInput, week_input, sales_due, backlog_after, sales_in_stock}
 use Rattle.machine.specs.Machine.{inventory_after, storage_kept, booked, week_done, week_stops, week_end}
 use Rattle.machine.specs.Run.{opening, run_slots, run_week, run_weeks, run, slots_done, ran_week, after}
@@ -45,8 +41,8 @@ record Alike (r q : Step) (s : State) : Type 0 where
   next : (g h : State → Step) → g s ≡ h s → and_then r g ≡ and_then q h
 
 step_alike : (o : Outcome) (s t : State) {r : Step} → stepped o s t ≡ r → Alike (stepped o s t) r t
-step_alike Continues s t e = record { next = λ g h d. d ∙ ap (λ (r : Step). and_then r h) e }
-step_alike (Stops n) s t e = record { next = λ g h d. ap (λ (r : Step). and_then r h) e }
+step_alike (Ok tt) s t e = record { next = λ g h d. d ∙ ap (λ (r : Step). and_then r h) e }
+step_alike (Err n) s t e = record { next = λ g h d. ap (λ (r : Step). and_then r h) e }
 
 then_alike : {r q : Step} {s t : State} (g h : State → Step) → Alike r q s → Alike (g s) (h s) t → Alike (and_then r g) (and_then q h) t
 then_alike {r} {q} g h a b =
@@ -58,10 +54,10 @@ then_alike {r} {q} g h a b =
 pub to_same : {N : ℕ} {g h : ℕ → ℕ → ℕ} → ((i j : ℕ) → i < N → j < N → g i j ≡ h i j) → (m : Mounted) (p : ℕ) → mounted_below N m → p < N
     → changeover_to g m p ≡ changeover_to h m p
 unfolding changeover_between
-to_same e Nothing p m k = refl
-to_same e (Product q) p m k = e q p m k
+to_same e None p m k = refl
+to_same e (Some q) p m k = e q p m k
 
-module _ (f : Shape) (a b : List ℕ) (same : SamePlant (plant_of f a) (plant_of f b)) (good : plant_form a ≡ Good f)
+module _ (f : Shape) (a b : List ℕ) (same : SamePlant (plant_of f a) (plant_of f b)) (good : plant_form a ≡ Ok f)
     (S : Slots) (formed : Formed (plant_of f a) S) where
   abbrev P : Plant
   P = plant_of f a
@@ -112,7 +108,7 @@ module _ (f : Shape) (a b : List ℕ) (same : SamePlant (plant_of f a) (plant_of
   lines_same w m t [] l k = refl
   lines_same w m t (x ∷ xs) l k =
       let known = k 0 (omega arith) in
-      rw (to_same same.changeover_minutes m x.product l known, lines_same w (Product x.product) _ xs known (λ u l. k (suc u) (omega arith)))
+      rw (to_same same.changeover_minutes m x.product l known, lines_same w (Some x.product) _ xs known (λ u l. k (suc u) (omega arith)))
 
   -- ---- week w
   module _ (w : ℕ) (l : w < f.weeks) where

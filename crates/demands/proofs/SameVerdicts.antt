@@ -13,7 +13,7 @@ use Rattle.sections.specs.Limits.{nothing_mounted}
 use Rattle.plant_file.specs.Same.{SamePlant}
 use Rattle.plant_file.specs.Plant.{Plant, plant_of}
 use Rattle.plan_file.specs.Plan.{Plan}
-use Rattle.costs.specs.declared.Mounted.TheVariants.{Nothing, Product}
+use Rattle.std.specs.Prelude.{None, Some}
 use Rattle.costs.specs.Mounted.{is_mounted, opening_mounted}
 use Rattle.costs.specs.Changeover.{changeover_between}
 use Rattle.costs.specs.Money.{changeover_charge_of}
@@ -36,7 +36,7 @@ module _ (f : Shape) (a b : List ℕ) (same : SamePlant (plant_of f a) (plant_of
   -- ---- what stands before a week: the opening, or the plan's own tables
   pub mounted_same : (n : ℕ) → mounted_after P.line x.line n ≡ mounted_after Q.line x.line n
   unfolding mounted_after opening_mounted
-  mounted_same zero = λ u i. is_mounted (cond (eqb (same.mounted u) nothing_mounted) Nothing (Product (same.mounted u))) i
+  mounted_same zero = λ u i. is_mounted (cond (eqb (same.mounted u) nothing_mounted) None (Some (same.mounted u))) i
   mounted_same (suc w) = refl
 
   pub backlog_before_same : (w c i : ℕ) → c < f.customers → i < N → backlog_before P x w c i ≡ backlog_before Q x w c i

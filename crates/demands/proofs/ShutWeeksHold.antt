@@ -1,4 +1,5 @@
 -- Request 2026-01 holds, for every accepted plant file and every plan file that passes. Assumes nothing.
+use Rattle.sections.specs.declared.Refusal.TheVariants as refusal
 use Prim.Native.Nat.{ℕ, ◌*◌, ◌<◌, ◌≤◌}
 use mathlib.Core.Path.{◌≡◌, refl, sym, ap, ◌∙◌}
 use mathlib.Core.List.{List, [], ◌∷◌}
@@ -11,7 +12,7 @@ use Rattle.mathematics.proofs.WeekRules.{shut_each, rule31_facts}
 use Rattle.mathematics.proofs.OrderTheorem as order
 use Rattle.numbers.specs.Number.{Bytes}
 use Rattle.sections.specs.declared.Shape.{Shape}
-use Rattle.sections.specs.declared.Form.TheVariants.{Good}
+use Rattle.std.specs.Prelude.{Err, None, Ok}
 use Rattle.plant_file.specs.Plant.{Plant, plant_of}
 use Rattle.plant_file.specs.Form.{plant_form}
 use Rattle.plant_file.specs.Ranges.{PlantRanges}
@@ -20,9 +21,7 @@ use Rattle.plan_file.specs.Plan.{Plan, plan_of}
 use Rattle.slot_file.specs.Slots.{Slot, slot_count, order_of_slots, Slots, slots_of}
 use Rattle.slot_file.proofs.Orders.{order_below}
 use Rattle.slot_file.proofs.SlotReads.{week_length, formed_not_24}
-use Rattle.costs.specs.declared.Mounted.{Mounted}
-use Rattle.costs.specs.declared.Mounted.TheVariants.{Nothing}
-use Rattle.costs.specs.Mounted.{is_mounted, opening_mounted}
+use Rattle.costs.specs.Mounted.{Mounted, is_mounted, opening_mounted}
 use Rattle.machine.specs.declared.State.{State}
 use Rattle.rules.specs.Rules.{week_of, mounted_after, mounted_before}
 use Rattle.rules.proofs.Weeks.{end_over, end_opening}
@@ -34,9 +33,7 @@ use Rattle.model.proofs.GivenPlans.{is_order_lem, plan_agree, given_rules}
 use Rattle.model.proofs.RunStates as run-states
 use Rattle.model.proofs.SmallPlantFacts.{small_plant_facts}
 use Rattle.model.specs.SmallPlant.{Fact, judged}
-use Rattle.rules.specs.declared.Verdict.TheVariants.{Broken}
 use Rattle.units.specs.declared.Profit.{Profit}
-use Rattle.calls.specs.declared.Check.TheVariants.{Passed}
 use Rattle.calls.specs.Check.{check_of}
 use Rattle.calls.specs.Answer.{bytes, slot_answer}
 use Rattle.demands.specs.ThirdDemand.{GivesFile}
@@ -49,7 +46,7 @@ no_slots N [] b h = refl
 no_slots N (x ∷ xs) b h = absurd (omega (arith, h x.product (b 0 (omega arith)), is_same x.product x.product refl))
 
 -- ---- a plan that slots give
-module _ (plant : List ℕ) (f : Shape) (accepted : plant_form plant ≡ Good f) (plan : List ℕ) (b : Bytes plan)
+module _ (plant : List ℕ) (f : Shape) (accepted : plant_form plant ≡ Ok f) (plan : List ℕ) (b : Bytes plan)
     (slots : List ℕ) (s : State) (gives : GivesFile plant f slots s plan) where
   abbrev P : Plant
   P = plant_of f plant
@@ -142,19 +139,19 @@ module _ (plant : List ℕ) (f : Shape) (accepted : plant_form plant ≡ Good f)
         shut_zero = λ w l none. (shut_tables w l none, shut_count w l none);
         sales_happen = shut_sales;
         passage = passage;
-        first_passage = λ o w l earlier i j k h. opening_passage Nothing o w l earlier i j k h ∙ omega arith;
+        first_passage = λ o w l earlier i j k h. opening_passage None o w l earlier i j k h ∙ omega arith;
         rule_31 = rule31_facts f.products;
         none_of_each = shut_each f.products;
         rule_33 = same_verdict P R.line;
         count_of_0 = formed_not_24 f;
-        case_10 = ap (λ (l : List Fact). get_or l 9 (judged (Broken 0))) small_plant_facts.0;
-        case_13 = ap (λ (l : List Fact). get_or l 12 (judged (Broken 0))) small_plant_facts.0;
+        case_10 = ap (λ (l : List Fact). get_or l 9 (judged (Err refusal.PlantContents))) small_plant_facts.0;
+        case_13 = ap (λ (l : List Fact). get_or l 12 (judged (Err refusal.PlantContents))) small_plant_facts.0;
         mounted_before_lem = mounted_before_lem;
       }
 
 -- ---- a plan that passes, and what slot return answers
-pub shut_weeks : (plant : List ℕ) (f : Shape) → plant_form plant ≡ Good f → (plan : List ℕ) → Bytes plan
-    → (q : Profit) → check_of plant plan ≡ Passed q → (slots : List ℕ) → slot_answer plant plan ≡ bytes slots → ShutWeeks plant f plan slots
+pub shut_weeks : (plant : List ℕ) (f : Shape) → plant_form plant ≡ Ok f → (plan : List ℕ) → Bytes plan
+    → (q : Profit) → check_of plant plan ≡ Ok q → (slots : List ℕ) → slot_answer plant plan ≡ bytes slots → ShutWeeks plant f plan slots
 shut_weeks plant f accepted plan b q e slots a =
     let r = (third_demand plant f accepted plan b).passes_exactly.0 (q, e) in
     let alike = sym (slot_answer_lem plant f accepted plan b r.0 r.1 r.2) ∙ a in

@@ -5,7 +5,7 @@ use mathlib.Core.List.{List}
 use native.Mathlib.Omega.{arith}
 use Rattle.numbers.specs.Number.{Bytes}
 use Rattle.sections.specs.declared.Shape.{Shape}
-use Rattle.sections.specs.declared.Form.TheVariants.{Good}
+use Rattle.std.specs.Prelude.{Err, Ok}
 use Rattle.plant_file.specs.Plant.{Plant, shape_of_plant, plant_of}
 use Rattle.plant_file.specs.Form.{plant_form}
 use Rattle.plant_file.specs.Ranges.{PlantRanges}
@@ -28,12 +28,9 @@ use Rattle.model.specs.Match.{Gives}
 use Rattle.model.proofs.Agreement.{running_passes, one_slots, shown_slots_lem}
 use Rattle.model.proofs.Widths.{run_fits, shown_fit}
 use Rattle.passed_plan.specs.declared.Pass.{Pass}
-use Rattle.passed_plan.specs.declared.Judgement.{Judgement}
-use Rattle.passed_plan.specs.declared.Judgement.TheVariants as judgement
-use Rattle.passed_plan.specs.Judgement.{judgement_of}
+use Rattle.passed_plan.specs.Judgement.{Judgement, judgement_of}
 use Rattle.passed_plan.specs.Shown.{shown_in}
 use Rattle.passed_plan.proofs.PassedPlan.{Passing, judged_passing, passing_judged, PassedPlan, passed_plan}
-use Rattle.calls.specs.declared.Check.TheVariants.{Passed}
 use Rattle.calls.specs.Check.{check_from, check_of}
 use Rattle.calls.specs.Answer.{bytes, slot_answer, plan_answer}
 use Rattle.calls.proofs.Output.{long_enough}
@@ -41,11 +38,11 @@ use Rattle.demands.specs.ThirdDemand.{GivesFile, ThirdDemand}
 use Rattle.demands.proofs.SameRuns.{run_same, tables_same}
 
 -- the judgement behind a check that passes
-judged_passed : (j : Judgement) (q : Profit) → check_from j ≡ Passed q → (p : Pass) × (j ≡ judgement.Passed p) × (p.profit ≡ q)
-judged_passed (judgement.Passed p) q e = (p, refl, cc)
-judged_passed (judgement.Refused n) q e = absurd (let z : ◌≡◌ {A = ℕ} 0 1 = cc in omega arith)
+judged_passed : (j : Judgement) (q : Profit) → check_from j ≡ Ok q → (p : Pass) × (j ≡ Ok p) × (p.profit ≡ q)
+judged_passed (Ok p) q e = (p, refl, cc)
+judged_passed (Err n) q e = absurd (let z : ◌≡◌ {A = ℕ} 0 1 = cc in omega arith)
 
-module _ (plant : List ℕ) (f : Shape) (accepted : plant_form plant ≡ Good f) (plan : List ℕ) (b : Bytes plan) where
+module _ (plant : List ℕ) (f : Shape) (accepted : plant_form plant ≡ Ok f) (plan : List ℕ) (b : Bytes plan) where
   abbrev P : Plant
   P = plant_of f plant
 
@@ -66,7 +63,7 @@ module _ (plant : List ℕ) (f : Shape) (accepted : plant_form plant ≡ Good f)
   small = (omega (arith, R.products_most), omega (arith, R.customers_most), omega (arith, R.weeks_most))
 
   -- ---- checking passes exactly where the judgement does
-  pub check_passing : (q : Profit) → check_of plant plan ≡ Passed q → Passing f plant plan q
+  pub check_passing : (q : Profit) → check_of plant plan ≡ Ok q → Passing f plant plan q
   unfolding check_of
   check_passing q e =
       let r = judged_passed (judgement_of plant plan) q e in
@@ -75,7 +72,7 @@ module _ (plant : List ℕ) (f : Shape) (accepted : plant_form plant ≡ Good f)
       let s : r.0.shape ≡ f = cc in
       rw (s, r.2) at h
 
-  pub passing_check : (q : Profit) → Passing f plant plan q → check_of plant plan ≡ Passed q
+  pub passing_check : (q : Profit) → Passing f plant plan q → check_of plant plan ≡ Ok q
   unfolding check_of
   passing_check q h = rw (passing_judged plant plan f q h)
 
@@ -119,7 +116,7 @@ module _ (plant : List ℕ) (f : Shape) (accepted : plant_form plant ≡ Good f)
     plan_answer_lem = rw (accepted, g.rows, g.runs, g.gives)
 
   -- ---- a plan that passes: the file of the slots that it shows gives it
-  module _ (q : Profit) (e : check_of plant plan ≡ Passed q) where
+  module _ (q : Profit) (e : check_of plant plan ≡ Ok q) where
     passes : Passing f plant plan q
     passes = check_passing q e
 

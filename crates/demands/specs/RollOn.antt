@@ -1,9 +1,10 @@
 -- REQUEST 2026-03, ROLL ON WITH NEW RATES, over the call's own definition: what rolling on refuses, and the claim for an accepted plant file, a plan
 -- file that passes and the file that is written. Each sentence of the request is a field, or a few. Assumes nothing.
+use Rattle.sections.specs.declared.Refusal.{Refusal}
 use Rattle.std.specs.Prelude.{ℕ, ◌+◌, ◌-◌, ◌*◌, ◌≤◌, ◌<◌, ◌≡◌, ◌↔◌, ◌⊎◌, ◌≢◌, true, List, length, ◌+ℤ◌}
 use Rattle.contents.specs.Contents.{sized}
 use Rattle.sections.specs.declared.Shape.{Shape}
-use Rattle.sections.specs.declared.Form.TheVariants as form
+use Rattle.std.specs.Prelude.{Err, Ok}
 use Rattle.plant_file.specs.Kinds.{plant_kind}
 use Rattle.plant_file.specs.Plant.{Plant, plant_of}
 use Rattle.plant_file.specs.Form.{shape_of, plant_headed, laid_out, plant_lengths, plant_form}
@@ -20,10 +21,10 @@ use Rattle.machine.specs.Run.{run, after}
 use Rattle.model.specs.RunTables.{mounted_at}
 use Rattle.model.specs.Rolled.{rolled_shape, later_slots}
 use Rattle.passed_plan.specs.Shown.{shown_in}
-use Rattle.calls.specs.declared.Check.TheVariants as check
 use Rattle.calls.specs.Check.{check_of}
 use Rattle.calls.specs.Answer.{bytes, refused, roll_answer}
 use Rattle.demands.specs.OpeningMounted.{Passes}
+use Rattle.sections.specs.declared.Refusal.TheVariants as refusal
 
 -- every rate of a list is 1 to 100,000
 abbrev pub RatesInRange : ℕ → List ℕ → Type 0
@@ -32,14 +33,14 @@ RatesInRange N rates = (i : ℕ) → i < N → (1 ≤ listed_rate rates i) × (l
 -- the numbers that follow the plan's checks, in their order
 pub record RollRefused (plant : List ℕ) (f : Shape) (plan : List ℕ) (k : ℕ) (rates : List ℕ) : Type 0 where
   -- "61 if k is not 1 to W − 1, after the plan's checks and before the rates"
-  pub outside_is_61 : Passes plant plan → (k ≡ 0) ⊎ (f.weeks ≤ k) → roll_answer plant plan k rates ≡ refused 61
+  pub outside_is_61 : Passes plant plan → (k ≡ 0) ⊎ (f.weeks ≤ k) → roll_answer plant plan k rates ≡ refused refusal.WeeksLeft
   -- "A list that isn't N rates of 4 bytes is a 4, a rate out of range a 5"
-  pub list_is_4 : Passes plant plan → 1 ≤ k → k < f.weeks → length rates ≢ 4 * f.products → roll_answer plant plan k rates ≡ refused 4
+  pub list_is_4 : Passes plant plan → 1 ≤ k → k < f.weeks → length rates ≢ 4 * f.products → roll_answer plant plan k rates ≡ refused refusal.PlantLengths
   pub rate_is_5 : Passes plant plan → 1 ≤ k → k < f.weeks → length rates ≡ 4 * f.products
-      → (i : ℕ) → i < f.products → (listed_rate rates i ≡ 0) ⊎ (100000 < listed_rate rates i) → roll_answer plant plan k rates ≡ refused 5
+      → (i : ℕ) → i < f.products → (listed_rate rates i ≡ 0) ⊎ (100000 < listed_rate rates i) → roll_answer plant plan k rates ≡ refused refusal.PlantRanges
   -- "62 if an owed amount exceeds the limit, after the rates and before 51"
   pub backlog_is_62 : Passes plant plan → 1 ≤ k → k < f.weeks → length rates ≡ 4 * f.products → RatesInRange f.products rates
-      → (c i : ℕ) → c < f.customers → i < f.products → 1600000000 < (plan_of f plan).backlog c i (k - 1) → roll_answer plant plan k rates ≡ refused 62
+      → (c i : ℕ) → c < f.customers → i < f.products → 1600000000 < (plan_of f plan).backlog c i (k - 1) → roll_answer plant plan k rates ≡ refused refusal.OpeningBacklog
   -- else there is a file to write
   pub otherwise : Passes plant plan → 1 ≤ k → k < f.weeks → length rates ≡ 4 * f.products → RatesInRange f.products rates
       → ((c i : ℕ) → c < f.customers → i < f.products → (plan_of f plan).backlog c i (k - 1) ≤ 1600000000)
@@ -87,12 +88,12 @@ pub record RolledOn (N C weeks : ℕ) (P : Plant) (S : Slots) (k : ℕ) (rates :
 -- the file `new` that rolling on answers with, and the file of the slots and sales of the later weeks
 pub record RollOn (plant : List ℕ) (f : Shape) (plan : List ℕ) (k : ℕ) (rates new : List ℕ) : Type 0 where
   -- "write the kind 4 plant file of the remaining weeks": it is accepted, and its numbers are these
-  pub accepted : plant_form new ≡ form.Good (rolled_shape f k)
+  pub accepted : plant_form new ≡ Ok (rolled_shape f k)
   pub rolled : RolledOn f.products f.customers f.weeks (plant_of f plant) (shown_in f plan) k rates (plant_of (rolled_shape f k) new)
   -- "Where that succeeds with unchanged rates, the slots and sales of the later weeks run on the new plant"
   pub runs_on : ((i : ℕ) → i < f.products → listed_rate rates i ≡ (plant_of f plant).line.rate i)
       → let later = slot_file (rolled_shape f k) (later_slots k (shown_in f plan)) in
-      (slot_form (rolled_shape f k) later ≡ form.Good (rolled_shape f k))
+      (slot_form (rolled_shape f k) later ≡ Ok (rolled_shape f k))
       × RunsOn (plant_of f plant) (shown_in f plan) k (f.weeks - k) (plant_of (rolled_shape f k) new) (slots_of (rolled_shape f k) later)
   -- whose whole profit is the plan's
   pub whole : (after (plant_of f plant) (shown_in f plan) f.weeks).profit.0 ≡ (plan_of f plan).profit
@@ -104,14 +105,14 @@ pub record OpeningBacklog (plant : List ℕ) (f : Shape) : Type 0 where
   pub limit : (c i : ℕ) → c < f.customers → i < f.products → (plant_of f plant).opening_backlog c i ≤ (plant_kind f.kind).backlog
   -- it may: a file past rows 1, 2 and 4 with numbers within the ranges, that limit among them, is accepted
   pub never_refused : (s : List ℕ) → plant_headed s ≡ true → laid_out s ≡ true → sized s (plant_lengths (shape_of s)) ≡ true
-      → PlantRanges (plant_of (shape_of s) s) → plant_form s ≡ form.Good (shape_of s)
+      → PlantRanges (plant_of (shape_of s) s) → plant_form s ≡ Ok (shape_of s)
 
 -- the request
 pub record RollingOn (plant : List ℕ) : Type 0 where
   -- of any bytes: what checking refuses, the plant's rows, the plan's and the rules, is refused with its number
-  pub unchecked : (plan : List ℕ) (k : ℕ) (rates : List ℕ) (n : ℕ) → check_of plant plan ≡ check.Refused n → roll_answer plant plan k rates ≡ refused n
+  pub unchecked : (plan : List ℕ) (k : ℕ) (rates : List ℕ) (n : Refusal) → check_of plant plan ≡ Err n → roll_answer plant plan k rates ≡ refused n
   -- of an accepted plant file
-  pub refusals : (f : Shape) → plant_form plant ≡ form.Good f → (plan : List ℕ) (k : ℕ) (rates : List ℕ) → RollRefused plant f plan k rates
-  pub writes : (f : Shape) → plant_form plant ≡ form.Good f → (plan : List ℕ) → Passes plant plan → (k : ℕ) (rates new : List ℕ)
+  pub refusals : (f : Shape) → plant_form plant ≡ Ok f → (plan : List ℕ) (k : ℕ) (rates : List ℕ) → RollRefused plant f plan k rates
+  pub writes : (f : Shape) → plant_form plant ≡ Ok f → (plan : List ℕ) → Passes plant plan → (k : ℕ) (rates new : List ℕ)
       → roll_answer plant plan k rates ≡ bytes new → RollOn plant f plan k rates new
-  pub opening_backlog : (f : Shape) → plant_form plant ≡ form.Good f → OpeningBacklog plant f
+  pub opening_backlog : (f : Shape) → plant_form plant ≡ Ok f → OpeningBacklog plant f

@@ -6,11 +6,11 @@ use Rattle.plant_file.specs.Plant.{plant_of}
 use Rattle.plan_file.specs.Plan.{plan_of}
 use Rattle.units.specs.declared.Profit.{Profit}
 use Rattle.model.specs.Model.{Model, objective}
-use Rattle.calls.specs.declared.Check.TheVariants.{Passed}
+use Rattle.std.specs.Prelude.{Ok}
 use Rattle.calls.specs.Check.{check_of}
 
 -- for an accepted plant file, and a plan file past rows 11 to 14
 pub record SecondDemand (plant : List ℕ) (f : Shape) (plan : List ℕ) : Type 0 where
-  pub passes_exactly : ((q : Profit) × (check_of plant plan ≡ Passed q))
+  pub passes_exactly : ((q : Profit) × (check_of plant plan ≡ Ok q))
       ↔ (Model (plant_of f plant) (plan_of f plan) × ((plan_of f plan).profit ≡ objective (plant_of f plant) (plan_of f plan)))
-  pub profit : (q : Profit) → check_of plant plan ≡ Passed q → q.0 ≡ objective (plant_of f plant) (plan_of f plan)
+  pub profit : (q : Profit) → check_of plant plan ≡ Ok q → q.0 ≡ objective (plant_of f plant) (plan_of f plan)

@@ -4,20 +4,18 @@ use Rattle.std.specs.Prelude.{ℕ, ◌+◌, ◌*◌, ◌-◌, ◌≤◌, ◌<◌
 use Rattle.mathematics.specs.Below.{sum_below}
 use Rattle.mathematics.specs.Week.{WeekTables, shut, rule31, OneMark, NoMark, NoProduct}
 use Rattle.sections.specs.declared.Shape.{Shape}
-use Rattle.sections.specs.declared.Form.TheVariants.{Refused}
+use Rattle.std.specs.Prelude.{Err, None, Ok}
 use Rattle.plant_file.specs.Plant.{Plant, plant_of}
 use Rattle.plan_file.specs.Plan.{Plan, plan_of}
 use Rattle.slot_file.specs.Slots.{WeekFormed, slot_count, slots_of}
 use Rattle.slot_file.specs.Form.{slot_form}
-use Rattle.costs.specs.declared.Mounted.TheVariants.{Nothing}
 use Rattle.costs.specs.Mounted.{is_mounted, opening_mounted}
-use Rattle.machine.specs.declared.Outcome.TheVariants.{Continues, Stops}
-use Rattle.rules.specs.declared.Verdict.TheVariants.{Passed, Broken}
 use Rattle.rules.specs.Rules.{week_of, mounted_before, backlog_before, inventory_before}
 use Rattle.rules.specs.Verdict.{verdict_of}
 use Rattle.rules.specs.Words.{verdict_in_words}
 use Rattle.model.specs.RunTables.{mounted_at}
 use Rattle.model.specs.SmallPlant.{Fact, judged, ran, fact_of, small_cases}
+use Rattle.sections.specs.declared.Refusal.TheVariants as refusal
 
 -- "its E, F, L, Z, ZF, O, T and P are 0" in week w, for N products
 pub record ShutTables (N : ℕ) (x : Plan) (w : ℕ) : Type 0 where
@@ -34,7 +32,7 @@ pub record ShutSales (P : Plant) (x : Plan) (w : ℕ) : Type 0 where
 
 -- what the small plant's case k gives, counted from 1
 abbrev pub case_of : ℕ → Fact
-case_of k = get_or (map fact_of small_cases) (k - 1) (judged (Broken 0))
+case_of k = get_or (map fact_of small_cases) (k - 1) (judged (Err refusal.PlantContents))
 
 -- week w of a line's plan is shut, or produces
 abbrev pub IsShut : Shape → Plan → ℕ → Type 0
@@ -55,7 +53,7 @@ pub record ShutWeeks (plant : List ℕ) (f : Shape) (plan slots : List ℕ) : Ty
       → (i j : ℕ) → i < f.products → j < f.products
       → (plan_of f plan).line.week_changeover w i j ≡ (plan_of f plan).line.last v i * (plan_of f plan).line.first w j
   -- "if there was one": with none, and nothing mounted before the first week (request 2026-02)
-  pub first_passage : opening_mounted (plant_of f plant).line ≡ Nothing → (w : ℕ) → w < f.weeks → ((u : ℕ) → u < w → IsShut f (plan_of f plan) u)
+  pub first_passage : opening_mounted (plant_of f plant).line ≡ None → (w : ℕ) → w < f.weeks → ((u : ℕ) → u < w → IsShut f (plan_of f plan) u)
       → (i j : ℕ) → i < f.products → j < f.products → (plan_of f plan).line.week_changeover w i j ≡ 0
   -- "Rule 31 becomes "one F and one L, each on a product with E = 1, or none of E, F and L"": the latter is what is called shut here
   pub rule_31 : (x : WeekTables) → (rule31 f.products x ≡ true)
@@ -65,10 +63,10 @@ pub record ShutWeeks (plant : List ℕ) (f : Shape) (plan slots : List ℕ) : Ty
   -- these words, and in request 2026-02's where a product is mounted before the first week
   pub rule_33 : (x : Plan) → verdict_of (plant_of f plant) x ≡ verdict_in_words (plant_of f plant) x
   -- "24 admits a count of 0": no file is refused with it whose weeks have 0 to N slots each, of products below N
-  pub count_of_0 : (s : List ℕ) → ((w : ℕ) → w < f.weeks → WeekFormed f.products ((slots_of f s).line.week w)) → slot_form f s ≡ Refused 24 → ⊥
+  pub count_of_0 : (s : List ℕ) → ((w : ℕ) → w < f.weeks → WeekFormed f.products ((slots_of f s).line.week w)) → slot_form f s ≡ Err refusal.SlotRanges → ⊥
   -- "case P10 gives 39", in the rules and in the run, "but passes with second sales of 100,000 and 0"
-  pub case_10 : case_of 10 ≡ ran (Broken 39) (Stops 39)
-  pub case_13 : case_of 13 ≡ ran (Passed (record { 0 = pos 4500000 })) Continues
+  pub case_10 : case_of 10 ≡ ran (Err refusal.Inventory) (Err refusal.Inventory)
+  pub case_13 : case_of 13 ≡ ran (Ok (record { 0 = pos 4500000 })) (Ok tt)
   -- "A shut week is part of a plan like any other for the match of plans and slots": the third demand in its own words, over the run that has
   -- mounted before each week what the plan's tables say
   pub mounted_before_lem : (w : ℕ) → w ≤ f.weeks → (i : ℕ) → i < f.products

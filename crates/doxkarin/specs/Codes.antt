@@ -1,23 +1,31 @@
--- What the exported calls return and leave behind their pointers: 0 and the values, or the number of the refusal and nothing changed.
+-- What the exported calls return and leave behind their pointers: 0 and the value, or the number of the refusal and nothing changed.
 -- Assumes nothing.
-use Rattle.std.specs.Prelude.{ℕ, ℤ}
-use Rattle.calls.specs.declared.Check.{Check}
-use Rattle.calls.specs.declared.Check.TheVariants as check
-use Rattle.calls.specs.declared.Written.{Written}
-use Rattle.calls.specs.declared.Written.TheVariants as written
+use Rattle.std.specs.Prelude.{ℕ, ℤ, Result, Ok, Err}
+use Rattle.sections.specs.declared.Refusal.{Refusal}
+use Rattle.sections.specs.Rows.{refusal_number}
+use Rattle.calls.specs.Check.{Check}
+use Rattle.calls.specs.Answer.{Written}
 
+abbrev pub code_of : {A : Type 0} → Result A Refusal → ℕ
+code_of (Ok value) = 0
+code_of (Err refusal) = refusal_number refusal
+
+-- what is behind a pointer after a call that found old there
+abbrev pub value_after : {A : Type 0} → Result A Refusal → A → A
+value_after (Ok value) old = value
+value_after (Err refusal) old = old
+
+-- checking: the profit
 abbrev pub check_code : Check → ℕ
-check_code (check.Passed p) = 0
-check_code (check.Refused n) = n
+check_code check = code_of check
 
 abbrev pub profit_after : Check → ℤ → ℤ
-profit_after (check.Passed p) old = p.0
-profit_after (check.Refused n) old = old
+profit_after (Ok p) old = p.0
+profit_after (Err n) old = old
 
+-- the calls that write: the length
 abbrev pub written_code : Written → ℕ
-written_code (written.Length n) = 0
-written_code (written.Refused n) = n
+written_code written = code_of written
 
 abbrev pub length_after : Written → ℕ → ℕ
-length_after (written.Length n) old = n
-length_after (written.Refused n) old = old
+length_after written old = value_after written old

@@ -4,8 +4,7 @@ use mathlib.Core.Path.{◌≡◌, sym, ◌∙◌}
 use mathlib.Core.List.{List}
 use native.Mathlib.Omega.{arith}
 use lib.ListN.{length}
-use Rattle.calls.specs.declared.Written.{Written}
-use Rattle.calls.specs.Answer.{Answer, bytes, refused, written_in, output_after}
+use Rattle.calls.specs.Answer.{Written, Answer, bytes, refused, written_in, output_after}
 use Rattle.calls.proofs.Output.{written_back}
 use Rattle.files.specs.Within.{Within}
 

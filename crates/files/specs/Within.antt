@@ -1,7 +1,7 @@
 -- A length that a call says lies within its output. Assumes nothing.
 use Rattle.std.specs.Prelude.{ℕ, ◌≤◌, ◌≡◌}
-use Rattle.calls.specs.declared.Written.{Written}
-use Rattle.calls.specs.declared.Written.TheVariants.{Length}
+use Rattle.std.specs.Prelude.{Ok}
+use Rattle.calls.specs.Answer.{Written}
 
 abbrev pub Within : Written → ℕ → Type 0
-Within w size = (n : ℕ) → w ≡ Length n → n ≤ size
+Within w size = (n : ℕ) → w ≡ Ok n → n ≤ size

@@ -1,22 +1,37 @@
 // Files as the programs read and write them, and numbers as their arguments name them.
 #![tactic(auto)]
 
-ghost use Rattle.std.specs.Prelude.{length, ◌≡◌};
-ghost use Rattle.files.specs.Counts.{IsPrefixLen};
+ghost use Rattle.std.specs.Prelude.{length, take, ◌≡◌, ◌≤◌};
 ghost use Rattle.files.specs.Within.{Within};
 ghost use Rattle.files.specs.Numerals.{with_digit, numeral_of};
 
-use calls::Written;
+use sections::Refusal;
 use std::env::FillError;
 use std::io::{Read, Write};
 use std::rt::{Env, Files};
 use std::{fs, str};
 
-// 4,096 zeros, which hold any path.
-pub fn buffer() -> [u8; 4096]
-    ensures { 4096 ≡ length result }
-{
-    [0; 4096]
+// Bytes that were read: the first `count` of an array of N. A `Vec` would need a heap, which the programs do without.
+#[derive(Drop)]
+pub struct Bytes<const N: usize> {
+    items: [u8; N],
+    count: usize,
+    ghost fits: { count ≤ N },
+}
+
+// An argument. 4,096 bytes hold any path.
+pub type Argument = Bytes<4096>;
+
+// A file, or its start: as much as the programs read.
+pub type FileBytes = Bytes<65536>;
+
+impl<const N: usize> Bytes<N> {
+    // The bytes alone.
+    pub fn as_slice(&self) -> &[u8]
+        ensures { result.now ≡ take self.now.count self.now.items }
+    {
+        &self.items[..self.count]
+    }
 }
 
 // 65,536 zeros: as much of a file as the programs read, and room for each file that they write.
@@ -37,19 +52,20 @@ pub fn argument_count(rt: &impl Env) -> usize {
     usize::MAX
 }
 
-// Puts argument i at the start of buf, and answers how many bytes. One that is missing or longer than buf counts as empty.
-pub fn argument(rt: &impl Env, i: usize, buf: &mut [u8]) -> usize
-    ensures { IsPrefixLen result buf.new }
-{
-    rt.arg(i, buf).unwrap_or(0)
+// Argument i. One that is missing or longer than 4,096 bytes counts as empty.
+pub fn argument(rt: &impl Env, i: usize) -> Argument {
+    let mut items = [0; 4096];
+    let count = rt.arg(i, &mut items).unwrap_or(0);
+    Bytes { items, count }
 }
 
 // Reads until buf is full, the input ends or a read fails, and answers how many bytes it put at the start of buf.
 fn read_full(file: &mut impl Read, buf: &mut [u8]) -> usize
-    ensures { IsPrefixLen result buf.new }
+    ensures { result ≤ length buf.new }
 {
     let mut done = 0;
-    while done < buf.len() {
+    // Each read but the last one gives a byte at least, so that as many as buf has bytes are enough.
+    for _ in 0..buf.len() {
         let n = file.read(&mut buf[done..]).unwrap_or(0);
         if n == 0 {
             break;
@@ -59,33 +75,27 @@ fn read_full(file: &mut impl Read, buf: &mut [u8]) -> usize
     done
 }
 
-// Puts the start of a file at the start of buf, and answers how many bytes. One that cannot be read counts as empty.
-pub fn read_file(rt: &impl Files, path: &[u8], buf: &mut [u8]) -> usize
-    ensures { IsPrefixLen result buf.new }
-{
-    let Ok(path) = str::from_utf8(path) else {
-        return 0;
-    };
-    let Ok(mut file) = fs::open(rt, path) else {
-        return 0;
-    };
-    read_full(&mut file, buf)
+// The start of a file. One that cannot be read counts as empty.
+pub fn read_file(rt: &impl Files, path: &[u8]) -> FileBytes {
+    let mut items = large_buffer();
+    let mut count = 0;
+    if let Ok(path) = str::from_utf8(path)
+        && let Ok(mut file) = fs::open(rt, path)
+    {
+        count = read_full(&mut file, &mut items);
+    }
+    Bytes { items, count }
 }
 
-// The same of the file that argument i names.
-pub fn read_named(rt: &(impl Env + Files), i: usize, buf: &mut [u8]) -> usize
-    ensures { IsPrefixLen result buf.new }
-{
-    let mut name = buffer();
-    let n = argument(rt, i, &mut name);
-    read_file(rt, &name[..n], buf)
+// The start of the file that argument i names.
+pub fn read_named(rt: &(impl Env + Files), i: usize) -> FileBytes {
+    read_file(rt, argument(rt, i).as_slice())
 }
 
 // Puts the bytes into the file that argument i names, in the place of what it held, and answers whether all are written.
 pub fn write_named(rt: &(impl Env + Files), i: usize, bytes: &[u8]) -> bool {
-    let mut name = buffer();
-    let n = argument(rt, i, &mut name);
-    let Ok(path) = str::from_utf8(&name[..n]) else {
+    let name = argument(rt, i);
+    let Ok(path) = str::from_utf8(name.as_slice()) else {
         return false;
     };
     let Ok(mut file) = fs::create(rt, path) else {
@@ -94,74 +104,78 @@ pub fn write_named(rt: &(impl Env + Files), i: usize, bytes: &[u8]) -> bool {
     file.write_all(bytes).is_ok()
 }
 
-// What a text names: a number of 64 bits, or something else.
-#[derive(Clone, Copy)]
-pub enum Numeral {
-    Number(u64),
-    Other,
-}
-
 // A number with one more decimal digit.
-fn with_digit(n: u64, digit: u8) -> Numeral
+fn with_digit(n: u64, digit: u8) -> Option<u64>
     ensures { result ≡ with_digit n digit }
 {
-    if digit < 48 {
-        return Numeral::Other;
+    if !digit.is_ascii_digit() {
+        return None;
     }
-    if 57 < digit {
-        return Numeral::Other;
-    }
-    let value = digit as u64 - 48;
-    if (18446744073709551615 - value) / 10 < n {
-        return Numeral::Other;
-    }
-    Numeral::Number(n * 10 + value)
+    n.checked_mul(10)?.checked_add(u64::from(digit - b'0'))
 }
 
-// The number that decimal digits name.
-fn numeral_of(text: &[u8]) -> Numeral
+// The number that decimal digits name. `str::parse` would take a plus sign before them too.
+#[tactic(auto, unfolding(crate::specs::Numerals::numeral_of))]
+fn numeral_of(text: &[u8]) -> Option<u64>
     ensures { result ≡ numeral_of text.now }
 {
-    if text.len() == 0 {
-        return Numeral::Other;
+    if text.is_empty() {
+        return None;
     }
     let mut n = 0;
-    let mut i = 0;
-    while i < text.len() {
-        match with_digit(n, text[i]) {
-            Numeral::Number(m) => n = m,
-            Numeral::Other => return Numeral::Other,
-        }
-        i += 1;
+    for digit in text {
+        n = with_digit(n, *digit)?;
     }
-    Numeral::Number(n)
+    Some(n)
 }
 
 // The number that argument i names.
-pub fn named_number(rt: &impl Env, i: usize) -> Numeral {
-    let mut name = buffer();
-    let n = argument(rt, i, &mut name);
-    numeral_of(&name[..n])
-}
-
-// A line of a word and a number.
-fn print_line(rt: &impl Print, word: &str, n: u64) {
-    let _ = println!(rt; "{word}{n}");
+pub fn named_number(rt: &impl Env, i: usize) -> Option<u64> {
+    numeral_of(argument(rt, i).as_slice())
 }
 
 // Does what a call that writes said: puts what it wrote into the file that argument i names and prints the length, or prints the
 // number of the refusal and leaves the file as it was.
-pub fn deliver(rt: &(impl Env + Files + Print + Eprint), written: Written, out: &[u8], i: usize)
+pub fn deliver(
+    rt: &(impl Env + Files + Print + Eprint),
+    written: Result<usize, Refusal>,
+    out: &[u8],
+    i: usize,
+)
     requires { Within written (length out.now) }
 {
     match written {
-        Written::Refused(n) => print_line(rt, "refused ", n as u64),
-        Written::Length(n) => {
+        Err(refusal) => {
+            let _ = println!(rt; "refused {refusal}");
+        }
+        Ok(n) => {
             if write_named(rt, i, &out[..n]) {
-                print_line(rt, "written ", n as u64);
+                let _ = println!(rt; "written {n}");
             } else {
                 let _ = eprintln!(rt; "the output file cannot be written");
             }
         }
     }
+}
+
+// A program of three arguments, which name two files that a call reads and one for what it writes. With another count of arguments it
+// prints its usage.
+pub fn run_call<F: FnOnce(&[u8], &[u8], &mut [u8]) -> Result<usize, Refusal>>(
+    rt: &(impl Env + Files + Print + Eprint),
+    usage: &str,
+    call: F,
+)
+    requires callable { F.IsAlwaysCallable call }
+    requires within { (first : _) (second : _) (out : _) (said : _) (left : _) → F.post call first second out said left
+        → Within said (length left.now) }
+{
+    if argument_count(rt) != 4 {
+        let _ = eprintln!(rt; "{usage}");
+        return;
+    }
+    let first = read_named(rt, 1);
+    let second = read_named(rt, 2);
+    let mut out = large_buffer();
+    let written = call(first.as_slice(), second.as_slice(), &mut out);
+    deliver(rt, written, &out, 3);
 }

@@ -6,14 +6,14 @@ ghost use Rattle.std.specs.Prelude.{◌≡◌};
 ghost use Rattle.sections.specs.Rows.{number_of};
 ghost use Rattle.formcheck.specs.Answer.{answer_of};
 
-use files::{argument, argument_count, buffer, large_buffer, read_file};
+use files::{argument, argument_count, read_file};
 use plan_file::plan_form;
 use plant_file::plant_form;
-use sections::{Form, Shape};
+use sections::{Refusal, Shape};
 use slot_file::slot_form;
 use std::rt::{Env, Files};
 
-#[derive(Clone, Copy)]
+#[derive(Clone, Copy, Debug, PartialEq, Eq)]
 enum Kind {
     Plant,
     Plan,
@@ -22,45 +22,38 @@ enum Kind {
 
 // The kind of file that a name tells: slots.., plan-.. or plan.., and plant.. for any other.
 fn kind_of(name: &[u8]) -> Kind {
-    if name.len() < 5 {
-        return Kind::Plant;
+    match name {
+        [b's', _, _, _, _, ..] => Kind::Slots,
+        [_, _, _, _, b't', ..] => Kind::Plant,
+        [_, _, _, _, _, ..] => Kind::Plan,
+        _ => Kind::Plant,
     }
-    if name[0] == b's' {
-        return Kind::Slots;
-    }
-    if name[4] == b't' {
-        return Kind::Plant;
-    }
-    Kind::Plan
 }
 
-fn number(form: Form) -> u64
+fn number(form: Result<Shape, Refusal>) -> u32
     ensures { result ≡ number_of form }
 {
     match form {
-        Form::Good(_) => 0,
-        Form::Refused(n) => n as u64,
+        Ok(_) => 0,
+        Err(refusal) => refusal.number(),
     }
 }
 
-fn answer(kind: Kind, file: &[u8], plant: Shape) -> u64
+fn answer(kind: Kind, file: &[u8], plant: Shape) -> u32
     ensures { result ≡ answer_of kind file.now plant }
 {
-    match kind {
-        Kind::Plant => number(plant_form(file)),
-        Kind::Plan => number(plan_form(file, plant)),
-        Kind::Slots => number(slot_form(file, plant)),
-    }
+    number(match kind {
+        Kind::Plant => plant_form(file),
+        Kind::Plan => plan_form(file, plant),
+        Kind::Slots => slot_form(file, plant),
+    })
 }
 
 fn report(rt: &(impl Env + Files + Print), i: usize, plant: Shape) {
-    let mut name = buffer();
-    let n = argument(rt, i, &mut name);
-    let mut file = large_buffer();
-    let m = read_file(rt, &name[..n], &mut file);
-    let kind = kind_of(&name[..n]);
-    let number = answer(kind, &file[..m], plant);
-    let _ = rt.write_all(&name[..n]);
+    let argument = argument(rt, i);
+    let name = argument.as_slice();
+    let number = answer(kind_of(name), read_file(rt, name).as_slice(), plant);
+    let _ = rt.write_all(name);
     let _ = println!(rt; " {number}");
 }
 
@@ -71,11 +64,9 @@ fn report_all(rt: &(impl Env + Files + Print), plant: Shape) {
 }
 
 fn main(rt: HostRuntime) {
-    let mut file = large_buffer();
-    let n = read_file(&rt, b"plant.bin", &mut file);
-    match plant_form(&file[..n]) {
-        Form::Good(plant) => report_all(&rt, plant),
-        Form::Refused(_) => {
+    match plant_form(read_file(&rt, b"plant.bin").as_slice()) {
+        Ok(plant) => report_all(&rt, plant),
+        Err(_) => {
             let _ = println!(rt; "plant.bin is no plant");
         }
     }

@@ -7,4 +7,5 @@ pub mod ProductTables
 pub mod Steps
 pub mod Runs
 pub mod Sanity
+pub mod Inputs
 pub mod Rows

@@ -1,28 +1,25 @@
 -- A row of slots, run one slot at a time: what is left to run, and what the next slot asks. Assumes nothing.
-use Prim.Native.Nat.{ℕ, ◌+◌, ◌-◌, ◌≤◌, ◌<◌, ◌^◌}
+use Prim.Native.Nat.{ℕ, ◌+◌, ◌-◌, ◌<◌, ◌^◌}
 use mathlib.Core.Path.{◌≡◌, refl, sym, ap, subst, ◌∙◌}
 use mathlib.Core.List.{List, ◌∷◌}
 use native.Mathlib.Omega.{arith}
 use native.Mathlib.Numerals.{add-one}
 use lib.ListN.{length, get_or, drop, length-map, get_or-map}
 use lib.Seq.{drop-cons, drop-length}
-use Rattle.sections.specs.declared.Shape.{Shape}
-use Rattle.sections.specs.declared.Form.TheVariants.{Good}
+use Rattle.sections.specs.declared.Refusal.{Refusal}
 use Rattle.sections.specs.Limits.{most_weeks}
-use Rattle.plant_file.specs.Plant.{Plant, plant_of}
-use Rattle.plant_file.specs.Form.{plant_form}
+use Rattle.plant_file.specs.Plant.{Plant}
+use Rattle.plant_file.specs.Accepted.{plant_in}
+use Rattle.plant_file.specs.declared.file.PlantFile.{PlantFile}
 use Rattle.slot_file.specs.Slots.{Slot as FileSlot}
-use Rattle.machine.specs.declared.Outcome.TheVariants.{Continues}
 use Rattle.slot_file.specs.declared.Slot.{Slot}
 use Rattle.machine.specs.declared.State.{State}
-use Rattle.machine.specs.declared.Step.{Step}
-use Rattle.machine.specs.State.{continues, and_then}
+use Rattle.machine.specs.State.{Step, continues, stops, and_then}
 use Rattle.machine.specs.Machine.{slot_step}
 use Rattle.machine.specs.Run.{run_slots}
 use Rattle.machine.specs.Bounds.{Sane, Roomy}
 use Rattle.slot_file.specs.Row.{slot_of, slots_in}
 use Rattle.machine.specs.Row.{Runnable}
-use Rattle.machine.proofs.Runs.{continued_step, then_continued, then_ends, then_then}
 use Rattle.machine.proofs.Sanity.{sane_roomy, slot_kept}
 
 -- what lies past the end of a row
@@ -30,30 +27,24 @@ abbrev pub none : Slot
 none = record { product = 0; minutes = record { 0 = 0 } }
 
 -- ---- a run, slot by slot
--- r is what the first i slots gave
-pub record Reached (f : Shape) (plant : List ℕ) (row : List Slot) (s : State) (i : ℕ) (r : Step) : Type 0 where
-  pub within : i ≤ length row
-  pub sane : r.outcome ≡ Continues → Sane f (most_weeks - 1) i r.state
-  pub same : and_then r (run_slots (plant_of f plant) (plant_of f plant).line (drop i (slots_in row)))
-      ≡ run_slots (plant_of f plant) (plant_of f plant).line (slots_in row) s
+-- the first i slots have run without a stop, and left the state t
+pub record Reached (plant : PlantFile) (row : List Slot) (s : State) (i : ℕ) (t : State) : Type 0 where
+  pub sane : Sane plant.shape (most_weeks - 1) i t
+  pub same : run_slots (plant_in plant) (plant_in plant).line (drop i (slots_in row)) t
+      ≡ run_slots (plant_in plant) (plant_in plant).line (slots_in row) s
 
--- what a slot asks after r
-abbrev pub Asked : Shape → List ℕ → Slot → Step → Type 0
-Asked f plant t r =
-    (plant_form plant ≡ Good f) × (t.product < f.products) × (t.minutes.0 < 2 ^ 16) × (r.outcome ≡ Continues → Roomy f r.state)
-
-module _ (f : Shape) (plant : List ℕ) (row : List Slot) (s : State) (asks : Runnable f plant (slots_in row) s) where
+module _ (plant : PlantFile) (row : List Slot) (s : State) (asks : Runnable plant.shape (slots_in row) s) where
   abbrev P : Plant
-  P = plant_of f plant
+  P = plant_in plant
 
-  pub row_starts : Reached f plant row s 0 (continues s)
-  row_starts = record { within = omega arith; sane = λ _. asks.sane; same = refl }
+  pub row_starts : Reached plant row s 0 s
+  row_starts = record { sane = asks.sane; same = refl }
 
-  module _ (i : ℕ) (r : Step) (at : Reached f plant row s i r) where
-    pub row_ends : i ≡ length row → r ≡ run_slots (plant_of f plant) (plant_of f plant).line (slots_in row) s
+  module _ (i : ℕ) (t : State) (at : Reached plant row s i t) where
+    pub row_ends : i ≡ length row → continues t ≡ run_slots P P.line (slots_in row) s
     row_ends e =
         let all : drop i (slots_in row) ≡ drop (length (slots_in row)) (slots_in row) = rw (e, length-map row slot_of) in
-        sym (then_ends r) ∙ (sym (ap (λ (xs : List FileSlot). and_then r (run_slots P P.line xs)) (all ∙ drop-length (slots_in row))) ∙ at.same)
+        sym (ap (λ (xs : List FileSlot). run_slots P P.line xs t) (all ∙ drop-length (slots_in row))) ∙ at.same
 
     module _ (l : i < length row) where
       inside : i < length (slots_in row)
@@ -62,28 +53,29 @@ module _ (f : Shape) (plant : List ℕ) (row : List Slot) (s : State) (asks : Ru
       found : get_or (slots_in row) i (slot_of none) ≡ slot_of (get_or row i none)
       found = get_or-map slot_of row i none
 
-      known : (slot_of (get_or row i none)).product < f.products
-      known = subst (λ (x : FileSlot). x.product < f.products) found (asks.product i inside)
-
-      pub row_asks : Asked f plant (get_or row i none) r
+      pub row_asks : ((get_or row i none).product < plant.shape.products) × ((get_or row i none).minutes.0 < 2 ^ 16) × Roomy plant.shape t
       row_asks = (
-        asks.plant_good,
-        known,
+        subst (λ (x : FileSlot). x.product < plant.shape.products) found (asks.product i inside),
         subst (λ (x : FileSlot). x.minutes < 2 ^ 16) found (asks.minutes i inside),
-        λ e. sane_roomy (at.sane e) (omega arith) (omega (arith, asks.few, length-map row slot_of)),
+        sane_roomy at.sane (omega arith) (omega (arith, asks.few, length-map row slot_of)),
       )
 
-      pub row_goes : Reached f plant row s (i + 1) (and_then r (slot_step (plant_of f plant) (plant_of f plant).line (slot_of (get_or row i none))))
-      row_goes =
+      -- the run from slot i on
+      next : (r : Step) → r ≡ slot_step P P.line (slot_of (get_or row i none)) t
+          → and_then r (run_slots P P.line (drop (i + 1) (slots_in row))) ≡ run_slots P P.line (slots_in row) s
+      next r e =
           let x = slot_of (get_or row i none) in
-          let q = and_then r (slot_step P P.line x) in
           let rest : drop i (slots_in row) ≡ x ∷ drop (i + 1) (slots_in row) = rw (drop-cons (slots_in row) i (slot_of none) inside, found, add-one) in
+          ap (λ (q : Step). and_then q (run_slots P P.line (drop (i + 1) (slots_in row)))) e
+          ∙ (sym (ap (λ (xs : List FileSlot). run_slots P P.line xs t) rest) ∙ at.same)
+
+      pub row_goes : (u : State) → continues u ≡ slot_step P P.line (slot_of (get_or row i none)) t → Reached plant row s (i + 1) u
+      row_goes u e =
           record {
-            within = omega arith;
-            sane = λ e.
-                let both = then_continued r (slot_step P P.line x) q.state (continued_step q e) in
-                slot_kept plant f asks.plant_good x q known (at.sane both.0) (continued_step q e ∙ sym both.1) e;
-            same =
-                then_then r (slot_step P P.line x) (run_slots P P.line (drop (i + 1) (slots_in row)))
-                ∙ (sym (ap (λ (xs : List FileSlot). and_then r (run_slots P P.line xs)) rest) ∙ at.same);
+            sane = slot_kept plant.bytes.now plant.shape plant.accepted (slot_of (get_or row i none)) (continues u) row_asks.0 at.sane e refl;
+            same = next (continues u) e;
           }
+
+      pub row_stops : (u : State) (n : Refusal) → stops u n ≡ slot_step P P.line (slot_of (get_or row i none)) t
+          → stops u n ≡ run_slots P P.line (slots_in row) s
+      row_stops u n e = next (stops u n) e

@@ -14,7 +14,7 @@ use lib.Signed.{mag}
 use Rattle.mathematics.specs.Below.{sum_below}
 use Rattle.mathematics.proofs.Tables.{sum_few}
 use Rattle.sections.specs.declared.Shape.{Shape}
-use Rattle.sections.specs.declared.Form.TheVariants.{Good}
+use Rattle.std.specs.Prelude.{Ok}
 use Rattle.plant_file.specs.Plant.{plant_of}
 use Rattle.plant_file.specs.Form.{plant_form}
 use Rattle.plant_file.specs.Ranges.{PlantRanges}
@@ -24,8 +24,7 @@ use Rattle.plant_file.proofs.PlantKinds.{kind_backlog}
 use Rattle.plant_file.proofs.PlantInRange.{plant_ranges}
 use Rattle.slot_file.specs.Slots.{Slot, no_slot, Slots, SlotsFit}
 use Rattle.machine.specs.declared.State.{State}
-use Rattle.machine.specs.declared.Step.{Step}
-use Rattle.machine.specs.declared.Outcome.TheVariants.{Continues}
+use Rattle.machine.specs.State.{Step}
 use Rattle.machine.specs.State.{inventory_of, backlog_of, has_run, with_inventory, with_backlog, with_line, with_week, with_profit, with_mounted, continues}
 use Rattle.costs.specs.Changeover.{changeover_to}
 use Rattle.machine.specs.Machine.{week_begin, clock_after, slot_done, slot_step, WeekInput, week_input, sold_of}
@@ -81,7 +80,7 @@ set_at_most l p v b i r h g = elim (ℕ_discrete i p) [
   | no d ↦ omega (arith, get_or-set_other l p i v 0 d, g d)
 ]
 
-module _ (plant : List ℕ) (f : Shape) (good : plant_form plant ≡ Good f) where
+module _ (plant : List ℕ) (f : Shape) (good : plant_form plant ≡ Ok f) where
   ranges : PlantRanges (plant_of f plant)
   ranges = plant_ranges plant f good
 
@@ -205,7 +204,7 @@ module _ (plant : List ℕ) (f : Shape) (good : plant_form plant ≡ Good f) whe
 
   -- a step that continues, by what it gives back
   pub slot_kept : {w k : ℕ} {s : State} (x : Slot) (r : Step) → x.product < f.products → Sane f w k s
-      → r ≡ slot_step (plant_of f plant) (plant_of f plant).line x s → r.outcome ≡ Continues → Sane f w (k + 1) r.state
+      → r ≡ slot_step (plant_of f plant) (plant_of f plant).line x s → r.outcome ≡ Ok tt → Sane f w (k + 1) r.state
   slot_kept x r p h e q =
       let g = slot_continued (plant_of f plant) (plant_of f plant).line x _ r.state (sym e ∙ continued_step r q) in
       rw g.0 (slot_sane x p h g.1)
@@ -228,7 +227,7 @@ module _ (plant : List ℕ) (f : Shape) (good : plant_form plant ≡ Good f) whe
         sane_more (slots_kept (S.line.week w) (fit.formed w l).product 0 (week_begin s) t (begin_sane h) e) (omega arith)
         (omega (arith, (fit.formed w l).few, (counts plant f good).products))
 
-    pub week_kept : (r : Step) → r ≡ run_week (plant_of f plant) (week_input (plant_of f plant) S w) s → r.outcome ≡ Continues → Sane f (w + 1) 0 r.state
+    pub week_kept : (r : Step) → r ≡ run_week (plant_of f plant) (week_input (plant_of f plant) S w) s → r.outcome ≡ Ok tt → Sane f (w + 1) 0 r.state
     unfolding run_week
     week_kept r e q =
         let P = plant_of f plant in

@@ -1,8 +1,10 @@
 -- How a slot and the end of a week end, by the stops that they try, and what the week's tests say of each product. Assumes nothing.
+use Rattle.sections.specs.declared.Refusal.{Refusal}
+use Rattle.sections.specs.declared.Refusal.TheVariants as refusal
 use Prim.Native.Nat.{ℕ, ◌≤◌, ◌<◌}
 use Prim.{Unit}
 use mathlib.Core.Path.{◌≡◌, refl, sym, ap, ◌∙◌}
-use mathlib.Core.Bool.{Bool, true, false}
+use mathlib.Core.Bool.{Bool, true, false, not}
 use mathlib.Core.List.{List, [], ◌∷◌}
 use native.Mathlib.Omega.{arith}
 use lib.IntN.{pos, ◌+ℤ◌, ◌-ℤ◌}
@@ -15,11 +17,9 @@ use Rattle.slot_file.specs.Slots.{Slot}
 use Rattle.machine.specs.declared.BacklogUpdate.{BacklogUpdate}
 use Rattle.machine.specs.declared.InventoryUpdate.{InventoryUpdate}
 use Rattle.machine.specs.declared.State.{State}
-use Rattle.machine.specs.declared.Step.{Step}
-use Rattle.machine.specs.declared.Outcome.{Outcome}
-use Rattle.machine.specs.declared.Outcome.TheVariants.{Continues, Stops}
-use Rattle.machine.specs.State.{inventory_of, backlog_of, has_run, with_inventory, with_backlog, with_line, with_week, with_profit, with_mounted}
-use Rattle.machine.specs.State.{continues, Stop, stop_or, first_met, stepped}
+use Rattle.std.specs.Prelude.{Err, Ok}
+use Rattle.machine.specs.State.{Step, Outcome, inventory_of, backlog_of, has_run, with_inventory, with_backlog, with_profit}
+use Rattle.machine.specs.State.{continues, stops, Stop, stop, stop_or, first_met, stepped}
 use Rattle.machine.specs.Machine.{clock_after, slot_done, slot_stops, slot_step, WeekInput}
 use Rattle.machine.specs.Machine.{sales_due, backlog_after, sales_in_stock, inventory_after, storage_kept, booked, week_done, week_stops, week_end}
 use Rattle.machine.specs.Files.{BacklogUpdated, InventoryUpdated}
@@ -29,30 +29,33 @@ abbrev pub NoneMet : List Stop → Type 0
 NoneMet [] = Unit {0}
 NoneMet (t ∷ ts) = (t.met ≡ false) × NoneMet ts
 
-no_stop : {n : ℕ} → Stops n ≡ Continues → ⊥
+no_stop : {n : Refusal} → ◌≡◌ {A = Outcome} (Err n) (Ok tt) → ⊥
 no_stop e = let z : ◌≡◌ {A = ℕ} 0 1 = cc in omega arith
 
-one_met : (b : Bool) (n : ℕ) (next : Outcome) → stop_or b n next ≡ Continues → (b ≡ false) × (next ≡ Continues)
+one_met : (b : Bool) (n : Refusal) (next : Outcome) → stop_or b n next ≡ Ok tt → (b ≡ false) × (next ≡ Ok tt)
 one_met true n next e = absurd (no_stop e)
 one_met false n next e = (refl, e)
 
-pub none_met : (ts : List Stop) → first_met ts ≡ Continues → NoneMet ts
+pub none_met : (ts : List Stop) → first_met ts ≡ Ok tt → NoneMet ts
 none_met [] e = tt
-none_met (t ∷ ts) e = let r = one_met t.met t.number (first_met ts) e in (r.0, none_met ts r.1)
+none_met (t ∷ ts) e = let r = one_met t.met t.refusal (first_met ts) e in (r.0, none_met ts r.1)
 
-pub met_none : (ts : List Stop) → NoneMet ts → first_met ts ≡ Continues
+pub met_none : (ts : List Stop) → NoneMet ts → first_met ts ≡ Ok tt
 met_none [] h = refl
 met_none (t ∷ ts) h = rw h.0 (met_none ts h.1)
 
 -- a step that continues has met no stop
-pub continued : (o : Outcome) (s t u : State) → stepped o s t ≡ continues u → (o ≡ Continues) × (u ≡ t)
-continued Continues s t u e = (refl, sym (ap (λ (r : Step). r.state) e))
-continued (Stops n) s t u e = absurd (no_stop (ap (λ (r : Step). r.outcome) e))
+pub continued : (o : Outcome) (s t u : State) → stepped o s t ≡ continues u → (o ≡ Ok tt) × (u ≡ t)
+continued (Ok tt) s t u e = (refl, sym (ap (λ (r : Step). r.state) e))
+continued (Err n) s t u e = absurd (no_stop (ap (λ (r : Step). r.outcome) e))
 
--- a step by its outcome and its state
-pub stepped_parts : (o : Outcome) (s t : State) → ◌≡◌ {A = Step} (record { state = (stepped o s t).state; outcome = o }) (stepped o s t)
-stepped_parts Continues s t = refl
-stepped_parts (Stops n) s t = refl
+-- the stops that are tried later change nothing where one is met
+met_first : (t : Stop) (us : List Stop) (n : Refusal) → first_met (t ∷ []) ≡ Err n → first_met (t ∷ us) ≡ Err n
+met_first t us n e = go t.met e
+  where
+    go : (b : Bool) → stop_or b t.refusal (first_met []) ≡ Err n → stop_or b t.refusal (first_met us) ≡ Err n
+    go true e = e
+    go false e = absurd (no_stop (sym e))
 
 -- ---- a slot
 -- what a slot asks so as not to stop
@@ -73,22 +76,6 @@ module _ (P : Plant) (l : LinePlant) (x : Slot) (s : State) where
       let m = none_met (slot_stops P l x s) r.0 in
       (r.1, record { fresh = m.0; long = ltb-false _ _ m.1.0; early = ltb-false _ _ m.1.1.0 })
 
-  -- a slot leaves the backlog as it is
-  slot_backlog : (o : Outcome) → (stepped o s (slot_done l x s)).state.backlog ≡ s.backlog
-  unfolding slot_done with_inventory with_line with_week with_profit with_mounted
-  slot_backlog Continues = refl
-  slot_backlog (Stops n) = refl
-
-  -- a slot by its parts
-  pub slot_parts : (t : State) (o : Outcome) → o ≡ first_met (slot_stops P l x s) → t ≡ (stepped o s (slot_done l x s)).state
-      → ◌≡◌ {A = Step} (record { state = with_backlog t s.backlog; outcome = o }) (slot_step P l x s)
-  unfolding slot_step with_backlog
-  slot_parts t o q e =
-      let r = stepped o s (slot_done l x s) in
-      rw e
-      (ap {B = Step} (λ (l : List ℕ). record { state = with_backlog r.state l; outcome = o }) (sym (slot_backlog o))
-      ∙ (stepped_parts o s (slot_done l x s) ∙ ap (λ (o : Outcome). stepped o s (slot_done l x s)) q))
-
 -- ---- the end of a week
 module _ (P : Plant) (v : WeekInput) (s : State) where
   -- the stops that it tries
@@ -96,14 +83,23 @@ module _ (P : Plant) (v : WeekInput) (s : State) where
   tries = week_stops (sales_due P v s) (sales_in_stock P v s) (storage_kept P (inventory_after P v s))
 
   -- by the outcome of the three tests
-  module _ (o : Outcome) (e : o ≡ first_met tries) where
-    pub week_stops_lem : (n : ℕ) → o ≡ Stops n → record { state = s; outcome = o } ≡ week_end P v s
-    unfolding week_end
-    week_stops_lem n d = rw (← e, d)
+  week_stopped : (n : Refusal) → first_met tries ≡ Err n → week_end P v s ≡ stops s n
+  unfolding week_end
+  week_stopped n e = rw e
 
-    pub week_continues : o ≡ Continues → week_end P v s ≡ continues (week_done P v s)
-    unfolding week_end
-    week_continues d = rw (← e, d)
+  pub backlog_stopped : (n : Refusal) → first_met (stop refusal.Backlog (not (sales_due P v s)) ∷ []) ≡ Err n → week_end P v s ≡ stops s n
+  backlog_stopped n e =
+      week_stopped n (met_first (stop refusal.Backlog (not (sales_due P v s)))
+      (stop refusal.Inventory (not (sales_in_stock P v s)) ∷ stop refusal.Storage (not (storage_kept P (inventory_after P v s))) ∷ []) n e)
+
+  pub inventory_stopped : sales_due P v s ≡ true → (n : Refusal)
+      → first_met (stop refusal.Inventory (not (sales_in_stock P v s)) ∷ stop refusal.Storage (not (storage_kept P (inventory_after P v s))) ∷ []) ≡ Err n
+      → week_end P v s ≡ stops s n
+  inventory_stopped due n e = week_stopped n (rw due e)
+
+  pub week_continues : (o : Outcome) → o ≡ first_met tries → o ≡ Ok tt → week_end P v s ≡ continues (week_done P v s)
+  unfolding week_end
+  week_continues o e d = rw (← e, d)
 
   pub week_continued : (t : State) → week_end P v s ≡ continues t
       → (t ≡ week_done P v s) × (sales_due P v s ≡ true) × (sales_in_stock P v s ≡ true) × (storage_kept P (inventory_after P v s) ≡ true)
@@ -114,14 +110,13 @@ module _ (P : Plant) (v : WeekInput) (s : State) where
       (r.1, not-false _ m.0, not-false _ m.1.0, not-false _ m.1.1.0)
 
   -- the state after the week, by its two updates
-  pub week_parts : (b : BacklogUpdate) (i : InventoryUpdate) (z : Profit) → BacklogUpdated P v s b → InventoryUpdated P v s i
+  pub week_updated : (b : BacklogUpdate) (i : InventoryUpdate) (z : Profit) → BacklogUpdated P v s b → InventoryUpdated P v s i
       → z.0 ≡ s.profit.0 +ℤ pos b.revenue.0 -ℤ pos b.charge.0 -ℤ pos i.charge.0
-      → ◌≡◌ {A = State}
-      (record { inventory = i.inventory.0; line = s.line; backlog = b.backlog.0; profit = z })
-      (week_done P v s)
+      → week_end P v s ≡ continues (record { inventory = i.inventory.0; line = s.line; backlog = b.backlog.0; profit = z })
   unfolding week_done booked backlog_after inventory_after with_profit with_backlog with_inventory inventory_of backlog_of
-  week_parts b i z carried sold e =
-      rw (e, carried.backlog, carried.revenue, carried.charge, sold.inventory, sold.charge)
+  week_updated b i z carried sold e =
+      week_continues (Ok tt) (rw (carried.due, sold.in_stock, sold.kept)) refl
+      ∙ rw (e, carried.backlog, carried.revenue, carried.charge, sold.inventory, sold.charge)
 
 module _ (P : Plant) (s : State) where
   pub storage_at_lem : storage_kept P s ≡ true → (i : ℕ) → i < P.products → (P.least_storage i ≤ inventory_of s i) × (inventory_of s i ≤ P.greatest_storage i)

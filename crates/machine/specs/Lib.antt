@@ -4,3 +4,4 @@ pub mod Run
 pub mod Bounds
 pub mod Files
 pub mod Row
+pub mod Input

@@ -3,13 +3,13 @@ use Rattle.std.specs.Prelude.{ℕ, ◌+◌, ◌*◌, ◌-◌, ◌^◌, Bool, not
 use Rattle.mathematics.specs.Below.{sum_below, all_below, within}
 use Rattle.plant_file.specs.Plant.{LinePlant, Plant}
 use Rattle.slot_file.specs.Slots.{Slot, Slots}
-use Rattle.costs.specs.declared.Mounted.TheVariants.{Product}
+use Rattle.std.specs.Prelude.{Some}
 use Rattle.costs.specs.Changeover.{changeover_to}
 use Rattle.costs.specs.Money.{revenue_of, backlog_charge_of, inventory_charge_of, changeover_charge_of}
 use Rattle.machine.specs.declared.State.{State}
-use Rattle.machine.specs.declared.Step.{Step}
-use Rattle.machine.specs.State.{inventory_of, backlog_of, has_run, with_inventory, with_backlog, with_week, with_profit, with_mounted}
+use Rattle.machine.specs.State.{Step, inventory_of, backlog_of, has_run, with_inventory, with_backlog, with_week, with_profit, with_mounted}
 use Rattle.machine.specs.State.{update_row, update_rows, Stop, stop, first_met, stepped}
+use Rattle.sections.specs.declared.Refusal.TheVariants as refusal
 
 -- ---- "Week begins: clock 0, no product run."
 unfoldable pub week_begin : State → State
@@ -30,14 +30,14 @@ slot_done l x s =
     (with_inventory s (set s.inventory x.product (inventory_of s x.product + l.rate x.product * x.minutes)))
     (s.line.ran + 2 ^ x.product) (clock_after l x s))
     (s.profit.0 -ℤ pos (changeover_charge_of (changeover_to l.changeover_cents s.line.mounted x.product))))
-    (Product x.product)
+    (Some x.product)
 
 -- "stop 25 if p ran this week; stop 35 if m is below the shortest run; .. stop 36 if the clock passes the week's minutes"
 unfoldable pub slot_stops : Plant → LinePlant → Slot → State → List Stop
 slot_stops P l x s =
-    stop 25 (has_run s x.product)
-    ∷ stop 35 (ltb x.minutes P.shortest_run)
-    ∷ stop 36 (ltb P.week_minutes (clock_after l x s))
+    stop refusal.ProductTwice (has_run s x.product)
+    ∷ stop refusal.RunMinutes (ltb x.minutes P.shortest_run)
+    ∷ stop refusal.WeekMinutes (ltb P.week_minutes (clock_after l x s))
     ∷ []
 
 unfoldable pub slot_step : Plant → LinePlant → Slot → State → Step
@@ -93,7 +93,7 @@ week_done P v s = booked P v (backlog_after P v (inventory_after P v s))
 -- "stop 38 if the sale exceeds owed plus demand .. stop 39 if the product's sales exceed its stock .. stop 40 if stock is outside its limits".
 -- A round meets each cell once and has one number, so it stops exactly if its test fails at some cell
 abbrev pub week_stops : (due inStock kept : Bool) → List Stop
-week_stops due inStock kept = stop 38 (not due) ∷ stop 39 (not inStock) ∷ stop 40 (not kept) ∷ []
+week_stops due inStock kept = stop refusal.Backlog (not due) ∷ stop refusal.Inventory (not inStock) ∷ stop refusal.Storage (not kept) ∷ []
 
 unfoldable pub week_end : Plant → WeekInput → State → Step
 week_end P v s =

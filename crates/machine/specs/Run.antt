@@ -4,8 +4,7 @@ use Rattle.plant_file.specs.Plant.{LinePlant, Plant}
 use Rattle.slot_file.specs.Slots.{Slot, Slots}
 use Rattle.costs.specs.Mounted.{opening_mounted}
 use Rattle.machine.specs.declared.State.{State}
-use Rattle.machine.specs.declared.Step.{Step}
-use Rattle.machine.specs.State.{update_row, update_rows, continues, and_then}
+use Rattle.machine.specs.State.{Step, update_row, update_rows, continues, and_then}
 use Rattle.machine.specs.Machine.{week_begin, slot_done, slot_step, WeekInput, week_input, week_done, week_end}
 
 -- "the machine begun from that mounted product" (request 2026-02); "the purse (0 at first)"; "begins with section 10's stock and owed"

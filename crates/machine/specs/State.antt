@@ -1,11 +1,11 @@
 -- The state of the plant machine: what it holds, and how a step leaves it. Assumes nothing.
 use Rattle.std.specs.Prelude.{ℕ, zero, suc, ◌+◌, ◌*◌, ◌/◌, ◌%◌, ◌^◌, Bool, true, false, eqb, List, [], ◌∷◌, get_or, set, ℤ}
-use Rattle.costs.specs.declared.Mounted.{Mounted}
+use Rattle.std.specs.Prelude.{Result, Err, Ok}
+use Rattle.sections.specs.declared.Refusal.{Refusal}
+use Rattle.costs.specs.Mounted.{Mounted}
 use Rattle.machine.specs.declared.LineState.{LineState}
 use Rattle.machine.specs.declared.State.{State}
-use Rattle.machine.specs.declared.Outcome.{Outcome}
-use Rattle.machine.specs.declared.Outcome.TheVariants.{Continues, Stops}
-use Rattle.machine.specs.declared.Step.{Step}
+use Rattle.machine.specs.declared.Stopped.{Stopped}
 
 -- grams of product i in inventory (the paper's stock)
 unfoldable pub inventory_of : State → ℕ → ℕ
@@ -50,38 +50,50 @@ update_rows zero n f l = l
 update_rows (suc m) n f l = update_row (m * n) n (f m) (update_rows m n f l)
 
 -- ---- what a step gives back: the state with a stop or without
+abbrev pub Outcome : Type 0
+Outcome = Result (Unit {0}) Refusal
+
+pub record Step : Type 0 where
+  pub state : State
+  pub outcome : Outcome
+
 abbrev pub continues : State → Step
-continues s = record { state = s; outcome = Continues }
+continues s = record { state = s; outcome = Ok tt }
 
-abbrev pub stops : State → ℕ → Step
-stops s n = record { state = s; outcome = Stops n }
+abbrev pub stops : State → Refusal → Step
+stops s n = record { state = s; outcome = Err n }
 
--- a stop that a step tries: its number, and whether it is met
+-- a stop that a step tries: its refusal, and whether it is met
 pub record Stop : Type 0 where
-  pub number : ℕ
+  pub refusal : Refusal
   pub met : Bool
 
-abbrev pub stop : ℕ → Bool → Stop
-stop n b = record { number = n; met = b }
+abbrev pub stop : Refusal → Bool → Stop
+stop n b = record { refusal = n; met = b }
 
 -- the first stop that is met, of those tried in this order
-abbrev pub stop_or : Bool → ℕ → Outcome → Outcome
-stop_or true n next = Stops n
+abbrev pub stop_or : Bool → Refusal → Outcome → Outcome
+stop_or true n next = Err n
 stop_or false n next = next
 
 abbrev pub first_met : List Stop → Outcome
-first_met [] = Continues
-first_met (t ∷ ts) = stop_or t.met t.number (first_met ts)
+first_met [] = (Ok tt)
+first_met (t ∷ ts) = stop_or t.met t.refusal (first_met ts)
 
 -- the state as it was before a step that stops, else the one after it
 abbrev pub stepped : Outcome → (before after : State) → Step
-stepped Continues before after = continues after
-stepped (Stops n) before after = stops before n
+stepped (Ok tt) before after = continues after
+stepped (Err n) before after = stops before n
 
 -- the next step where this one does not stop
 abbrev pub onward : Outcome → Step → Step → Step
-onward Continues a b = b
-onward (Stops n) a b = a
+onward (Ok tt) a b = b
+onward (Err n) a b = a
 
 abbrev pub and_then : Step → (State → Step) → Step
 and_then r next = onward r.outcome r (next r.state)
+
+-- what the code gives back: the state after a step, or where it has stopped
+abbrev pub step_of : Result State Stopped → Step
+step_of (Ok s) = continues s
+step_of (Err t) = stops t.state t.refusal

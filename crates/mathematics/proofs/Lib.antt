@@ -1,3 +1,4 @@
+pub mod Ranges
 pub mod Below
 pub mod Join
 pub mod Lists

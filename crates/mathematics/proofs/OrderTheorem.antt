@@ -14,7 +14,7 @@ use borrow.Author.Tests.{eqb-true, eq-eqb}
 use Rattle.mathematics.specs.Week.{WeekTables, count, one_each, shut, rule31, NoProduct, Meets}
 use Rattle.mathematics.specs.Order.{order_at, is_order, position_in, order_tables, product_at, order_of, Agree}
 use Rattle.mathematics.proofs.Below.{sum_ext, sum_zero, term_le_sum, first_below_lem, is_same}
-use Rattle.mathematics.proofs.Sums.{length_list, get_d_list}
+use Rattle.mathematics.proofs.Lists.{list_length, list_at}
 use Rattle.mathematics.proofs.WeekRules.{WeekFacts, all_into, one_last, week_facts, facts_shut, not_shut}
 use Rattle.mathematics.proofs.WeekRules.{holds_once, holds32, holds34, facts_binary, facts_agree}
 use Rattle.mathematics.proofs.WeekPositions.{some_first, position_some, position_only, agree_by_position}
@@ -24,11 +24,11 @@ use Rattle.mathematics.proofs.OrderTables.{order_count, order_week_facts}
 -- n is the length of the order that the tables show
 pub order_length : (N : ℕ) (x : WeekTables) → length (order_of N x) ≡ count N x
 unfolding order_of
-order_length N x = length_list (count N x) (product_at N x)
+order_length N x = list_length (count N x) (product_at N x)
 
 order_product : (N : ℕ) (x : WeekTables) (k : ℕ) → k < count N x → order_at (order_of N x) k ≡ product_at N x k
 unfolding order_of
-order_product N x k l = get_d_list (count N x) (product_at N x) k l
+order_product N x k l = list_at (count N x) (product_at N x) k 0 l
 
 module _ (N : ℕ) (x : WeekTables) (w : WeekFacts N x) where
   product_position : (k : ℕ) → k < count N x → (product_at N x k < N) × (x.position (product_at N x k) ≡ suc k)

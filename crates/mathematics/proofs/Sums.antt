@@ -1,15 +1,13 @@
--- More laws of sums, tests and lists over the numbers below a bound. Assumes nothing.
+-- More laws of sums and tests over the numbers below a bound. Assumes nothing.
 use Prim.Native.Nat.{ℕ, ◌+◌, ◌*◌, ◌<◌, ◌≤◌}
 use mathlib.Core.Path.{◌≡◌, sym, ap, ◌∙◌}
 use mathlib.Core.Logic.{◌↔◌}
 use mathlib.Core.Bool.{true}
 use native.Mathlib.Omega.{arith}
 use native.Mathlib.Decide.{ℕ_discrete}
-use lib.ListN.{length, get_or}
 use lib.Dec.{eqb}
 use borrow.Author.Tests.{eqb-true, eq-eqb}
-use Rattle.mathematics.proofs.Lists.{list_length, list_at}
-use Rattle.mathematics.specs.Below.{sum_below, all_below, list_below, is}
+use Rattle.mathematics.specs.Below.{sum_below, all_below, is}
 use Rattle.mathematics.proofs.Below.{sum_ext, sum_mono, sum_add, sum_mul, sum_swap, sum_some, sum_tight, sum_is_times}
 use Rattle.mathematics.proofs.Below.{all_each, each_all, bit_le, bit_eq, bit_iff}
 
@@ -67,10 +65,3 @@ all_equal n f g h i l = eqb-true (f i) (g i) (all_each n (λ k. eqb (f k) (g k))
 
 pub equal_all : (n : ℕ) (f g : ℕ → ℕ) → ((i : ℕ) → i < n → f i ≡ g i) → all_below n (λ i. eqb (f i) (g i)) ≡ true
 equal_all n f g h = each_all n (λ k. eqb (f k) (g k)) (λ i l. eq-eqb (f i) (g i) (h i l))
-
--- ---- the list of a function's values
-pub length_list : (n : ℕ) (f : ℕ → ℕ) → length (list_below n f) ≡ n
-length_list n f = list_length n f
-
-pub get_d_list : (n : ℕ) (f : ℕ → ℕ) (k : ℕ) → k < n → get_or (list_below n f) k 0 ≡ f k
-get_d_list n f k l = list_at n f k 0 l

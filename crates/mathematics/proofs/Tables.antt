@@ -4,6 +4,7 @@ use Prim.Native.Nat.{ℕ, zero, suc, ◌+◌, ◌*◌, ◌/◌, ◌%◌, ◌<◌
 use mathlib.Core.Path.{◌≡◌, refl, sym, ap, ◌∙◌}
 use mathlib.Core.Bool.{Bool, true, false, ◌&&◌}
 use native.Mathlib.Omega.{arith}
+use Rattle.std.proofs.Math.Bool.{and_assoc, and-true}
 use native.Mathlib.Nat.{add-zero, add-suc, zero-mul, suc-mul, mul_comm, mul-le-mul_right, le_trans}
 use Rattle.mathematics.specs.Below.{sum_below, all_below}
 use Rattle.mathematics.proofs.Below.{sum_ext, sum_mono, sum_mul, sum_swap, sum_const, all_each, each_all}
@@ -13,14 +14,6 @@ use Rattle.mathematics.proofs.Join.{row_of, column_of}
 pub all_ext : (n : ℕ) (p q : ℕ → Bool) → ((i : ℕ) → i < n → p i ≡ q i) → all_below n p ≡ all_below n q
 all_ext zero p q h = refl
 all_ext (suc n) p q h = rw (all_ext n p q (λ i l. h i (omega arith)), h n (omega arith))
-
-and_assoc : (a b c : Bool) → ((a && b) && c) ≡ (a && (b && c))
-and_assoc true b c = refl
-and_assoc false b c = refl
-
-and_true : (a : Bool) → (a && true) ≡ a
-and_true true = refl
-and_true false = refl
 
 pub and_swap : (a b c d : Bool) → ((a && b) && (c && d)) ≡ ((a && c) && (b && d))
 and_swap true true c d = refl
@@ -48,8 +41,8 @@ pub all_swap : (n m : ℕ) (p : ℕ → ℕ → Bool) → all_below n (λ i. all
 all_swap zero m p = sym (all_true m)
 all_swap (suc n) m p = ap (λ (b : Bool). b && all_below m (p n)) (all_swap n m p) ∙ all_both m (λ j. all_below n (λ i. p i j)) (p n)
 
-all_add : (m n : ℕ) (p : ℕ → Bool) → all_below (m + n) p ≡ (all_below m p && all_below n (λ j. p (m + j)))
-all_add m zero p = rw (add-zero, and_true)
+pub all_add : (m n : ℕ) (p : ℕ → Bool) → all_below (m + n) p ≡ (all_below m p && all_below n (λ j. p (m + j)))
+all_add m zero p = rw (add-zero, and-true)
 all_add m (suc n) p = rw (add-suc, all_add m n p, and_assoc)
 
 pub all_table : (m n : ℕ) (p : ℕ → ℕ → Bool) → all_below m (λ c. all_below n (λ i. p c i)) ≡ all_below (m * n) (λ k. p (k / n) (k % n))

@@ -13,7 +13,7 @@ use Rattle.slot_file.proofs.Orders.{order_below}
 use Rattle.units.specs.declared.Profit.{Profit}
 use Rattle.machine.specs.declared.State.{State}
 use Rattle.machine.specs.Run.{after}
-use Rattle.rules.specs.declared.Verdict.TheVariants.{Passed}
+use Rattle.std.specs.Prelude.{Ok}
 use Rattle.rules.specs.Verdict.{verdict_of}
 use Rattle.model.specs.RunTables.{line_tables, run_tables}
 use Rattle.model.specs.Model.{Binary}
@@ -24,7 +24,7 @@ use Rattle.model.proofs.PlanRuns.{shown_gives}
 use Rattle.model.proofs.GivenPlans.{continued, is_order_lem, plan_agree, given_profit, given_rules, given_binary, same_slots}
 
 -- a plan that passes: the slots that it shows run without a stop and give it
-pub passing_runs : {P : Plant} → PlantRanges P → {x : Plan} {q : Profit} → Binary P x → verdict_of P x ≡ Passed q
+pub passing_runs : {P : Plant} → PlantRanges P → {x : Plan} {q : Profit} → Binary P x → verdict_of P x ≡ Ok q
     → Gives P (slots_shown P.products x) (after P (slots_shown P.products x) P.weeks) x × (x.profit ≡ q.0)
 passing_runs {P} R {x} {q} b e =
     let r = verdict_rules P x q e in
@@ -32,8 +32,8 @@ passing_runs {P} R {x} {q} b e =
 
 -- a plan that slots give, by a run without a stop, passes with the profit of the run
 module _ {P : Plant} (R : PlantRanges P) {S : Slots} {s : State} {x : Plan} (g : Gives P S s x) where
-  pub running_passes : verdict_of P x ≡ Passed (record { 0 = s.profit.0 })
-  running_passes = rules_verdict P x (given_rules R g) ∙ ap (λ (z : ℤ). Passed (record { 0 = z })) (given_profit R g)
+  pub running_passes : verdict_of P x ≡ Ok (record { 0 = s.profit.0 })
+  running_passes = rules_verdict P x (given_rules R g) ∙ ap (λ (z : ℤ). Ok (record { 0 = z })) (given_profit R g)
 
   pub running_binary : Binary P x
   running_binary = given_binary R g
@@ -59,10 +59,10 @@ shown_slots_lem R g = one_slots R (passing_runs R (running_binary R g) (running_
 
 -- a plan passes exactly where some slots give it
 pub agreement : {P : Plant} → PlantRanges P → {x : Plan} {q : Profit} → Binary P x
-    → (verdict_of P x ≡ Passed q) ↔ ((S : Slots) × (s : State) × Gives P S s x × (x.profit ≡ q.0))
+    → (verdict_of P x ≡ Ok q) ↔ ((S : Slots) × (s : State) × Gives P S s x × (x.profit ≡ q.0))
 agreement {P} R {x} {q} b = (
   λ e. (let r = passing_runs R b e in (slots_shown P.products x, after P (slots_shown P.products x) P.weeks, r.0, r.1)),
-  λ r. rules_verdict P x (given_rules R r.2) ∙ ap (λ (z : ℤ). Passed (record { 0 = z })) r.3,
+  λ r. rules_verdict P x (given_rules R r.2) ∙ ap (λ (z : ℤ). Ok (record { 0 = z })) r.3,
 )
 
 -- a plan whose numbers fit their sections has tables of 0 and 1

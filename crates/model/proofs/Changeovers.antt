@@ -11,10 +11,9 @@ use borrow.Author.Tests.{eq-eqb, ne_eqb}
 use Rattle.mathematics.specs.Below.{sum_below, is}
 use Rattle.mathematics.proofs.Below.{sum_ext, sum_zero, sum_add, sum_only, sum_is, is_same, is_other, is_le}
 use Rattle.slot_file.specs.Slots.{Slot, order_of_slots}
-use Rattle.costs.specs.declared.Mounted.{Mounted}
-use Rattle.costs.specs.declared.Mounted.TheVariants.{Nothing, Product}
+use Rattle.std.specs.Prelude.{None, Some}
 use Rattle.costs.specs.Changeover.{changeover_to}
-use Rattle.costs.specs.Mounted.{mounted_below}
+use Rattle.costs.specs.Mounted.{Mounted, mounted_below}
 use Rattle.costs.specs.Changeover.{changeover_between}
 use Rattle.rules.specs.Rules.{changeovers_under}
 use Rattle.mathematics.specs.Order.{ProductsBelow, assigned_in, first_in, changeover_in}
@@ -25,40 +24,40 @@ use Rattle.model.proofs.Grids.{grid_ext, grid_add, grid_zero}
 -- ---- what is mounted
 -- at most one product
 pub mounted_bit : (m : Mounted) (i : ℕ) → is_mounted m i ≤ 1
-mounted_bit Nothing i = omega arith
-mounted_bit (Product p) i = is_le p i
+mounted_bit None i = omega arith
+mounted_bit (Some p) i = is_le p i
 
 pub mounted_one : (N : ℕ) (m : Mounted) → mounted_below N m → sum_below N (is_mounted m) ≤ 1
-mounted_one N Nothing h = omega (arith, sum_zero N (λ i. 0) (λ i l. refl))
-mounted_one N (Product p) h = omega (arith, sum_is N p h)
+mounted_one N None h = omega (arith, sum_zero N (λ i. 0) (λ i l. refl))
+mounted_one N (Some p) h = omega (arith, sum_is N p h)
 
 -- it is read off its marks
 pub mounted_of_lem : (N : ℕ) (m : Mounted) (mark : ℕ → ℕ) → mounted_below N m → ((i : ℕ) → i < N → mark i ≡ is_mounted m i) → mounted_of N mark ≡ m
-mounted_of_lem zero Nothing mark h e = refl
-mounted_of_lem zero (Product p) mark h e = absurd (omega arith)
-mounted_of_lem (suc n) Nothing mark h e =
-    rw (ne_eqb (mark n) 1 (λ d. absurd (omega (arith, d, e n (omega arith))))) (mounted_of_lem n Nothing mark h (λ i l. e i (omega arith)))
-mounted_of_lem (suc n) (Product p) mark h e = elim (ℕ_discrete p n) [
-  | yes d ↦ rw (eq-eqb (mark n) 1 (e n (omega arith) ∙ is_same p n d)) (ap Product (sym d))
+mounted_of_lem zero None mark h e = refl
+mounted_of_lem zero (Some p) mark h e = absurd (omega arith)
+mounted_of_lem (suc n) None mark h e =
+    rw (ne_eqb (mark n) 1 (λ d. absurd (omega (arith, d, e n (omega arith))))) (mounted_of_lem n None mark h (λ i l. e i (omega arith)))
+mounted_of_lem (suc n) (Some p) mark h e = elim (ℕ_discrete p n) [
+  | yes d ↦ rw (eq-eqb (mark n) 1 (e n (omega arith) ∙ is_same p n d)) (ap Some (sym d))
   | no d ↦ rw (ne_eqb (mark n) 1 (λ q. absurd (omega (arith, q, e n (omega arith), is_other p n d))))
-      (mounted_of_lem n (Product p) mark (omega arith) (λ i l. e i (omega arith)))
+      (mounted_of_lem n (Some p) mark (omega arith) (λ i l. e i (omega arith)))
 ]
 
 mounted_more : (N : ℕ) (m : Mounted) → mounted_below N m → mounted_below (suc N) m
-mounted_more N Nothing h = h
-mounted_more N (Product p) h = omega arith
+mounted_more N None h = h
+mounted_more N (Some p) h = omega arith
 
 pub mounted_of_below : (N : ℕ) (mark : ℕ → ℕ) → mounted_below N (mounted_of N mark)
 mounted_of_below zero mark = tt
 mounted_of_below (suc n) mark = go (eqb (mark n) 1) (mounted_of_below n mark)
   where
-    go : (t : Bool) → mounted_below n (mounted_of n mark) → mounted_below (suc n) (cond t (Product n) (mounted_of n mark))
+    go : (t : Bool) → mounted_below n (mounted_of n mark) → mounted_below (suc n) (cond t (Some n) (mounted_of n mark))
     go true h = omega arith
     go false h = mounted_more n (mounted_of n mark) h
 
 pub last_below : (N : ℕ) (m : Mounted) (ps : List ℕ) → mounted_below N m → ProductsBelow N ps → mounted_below N (last_of m ps)
 last_below N m [] h k = h
-last_below N m (p ∷ ps) h k = last_below N (Product p) ps (k 0 (omega arith)) (λ u l. k (suc u) (omega arith))
+last_below N m (p ∷ ps) h k = last_below N (Some p) ps (k 0 (omega arith)) (λ u l. k (suc u) (omega arith))
 
 -- ---- `is`: under it the one product stands for the other
 pub is_move : (f : ℕ → ℕ) (p i : ℕ) → is p i * f p ≡ is p i * f i
@@ -97,7 +96,7 @@ sum_minutes N (x ∷ xs) h =
 -- what the changeovers of these products take, by a table, where m is mounted before the first
 abbrev pub total_changeover : (ℕ → ℕ → ℕ) → Mounted → List ℕ → ℕ
 total_changeover table m [] = 0
-total_changeover table m (p ∷ ps) = changeover_to table m p + total_changeover table (Product p) ps
+total_changeover table m (p ∷ ps) = changeover_to table m p + total_changeover table (Some p) ps
 
 module _ (N : ℕ) (table : ℕ → ℕ → ℕ) where
   -- under no marks, and under marks of two kinds
@@ -114,8 +113,8 @@ module _ (N : ℕ) (table : ℕ → ℕ → ℕ) where
 
   pub one_changeover : (m : Mounted) (p : ℕ) → mounted_below N m → p < N → changeovers_under N table (λ i j. is_mounted m i * is p j) ≡ changeover_to table m p
   unfolding changeovers_under
-  one_changeover Nothing p h l = under_zero (λ i j. 0 * is p j) (λ i j a b. omega arith)
-  one_changeover (Product q) p h l =
+  one_changeover None p h l = under_zero (λ i j. 0 * is p j) (λ i j a b. omega arith)
+  one_changeover (Some q) p h l =
       let t = changeover_between table in
       sum_ext N (λ i. sum_below N (λ j. is q i * is p j * t i j)) (λ i. is q i * t i p)
       (λ i a. sum_ext N (λ j. is q i * is p j * t i j) (λ j. is p j * (is q i * t i j)) (λ j b. omega arith)
@@ -132,5 +131,5 @@ module _ (N : ℕ) (table : ℕ → ℕ → ℕ) where
         arith,
         under_add (λ i j. is p i * first_in ps j) (changeover_in ps),
         one_changeover m p h l,
-        sum_changeovers (Product p) ps l (λ u v. k (suc u) (omega arith)),
+        sum_changeovers (Some p) ps l (λ u v. k (suc u) (omega arith)),
       )

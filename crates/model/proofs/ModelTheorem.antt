@@ -21,7 +21,7 @@ use Rattle.plant_file.specs.Plant.{Plant}
 use Rattle.plant_file.specs.Ranges.{PlantRanges}
 use Rattle.plan_file.specs.Plan.{LinePlan, Plan}
 use Rattle.units.specs.declared.Profit.{Profit}
-use Rattle.rules.specs.declared.Verdict.TheVariants.{Passed}
+use Rattle.std.specs.Prelude.{Ok}
 use Rattle.costs.specs.Changeover.{changeover_between}
 use Rattle.rules.specs.Rules.{week_of, changeovers_under, changeovers_in, revenue_in, changeover_charge_in, backlog_charge_in, inventory_charge_in, profit_of}
 use Rattle.rules.specs.Verdict.{verdict_of}
@@ -178,12 +178,12 @@ module _ (P : Plant) (R : PlantRanges P) (x : Plan) where
 
 -- a plan of binary tables passes exactly where it meets the constraints of the model and its profit is the objective
 pub model_rules : {P : Plant} → PlantRanges P → {x : Plan} → Binary P x
-    → ((q : Profit) × (verdict_of P x ≡ Passed q)) ↔ (Model P x × (x.profit ≡ objective P x))
+    → ((q : Profit) × (verdict_of P x ≡ Ok q)) ↔ (Model P x × (x.profit ≡ objective P x))
 model_rules {P} R {x} b = (
   λ r. (let h = (verdict_rules P x r.0 r.1).0 in (rules_model P R x h b, rules_profit P R x h)),
   λ m. (record { 0 = x.profit }, rules_verdict P x (model_holds P R x m.0 m.1)),
 )
 
 -- the profit passed is the objective
-pub passed_objective : {P : Plant} → PlantRanges P → (x : Plan) {q : Profit} → verdict_of P x ≡ Passed q → q.0 ≡ objective P x
+pub passed_objective : {P : Plant} → PlantRanges P → (x : Plan) {q : Profit} → verdict_of P x ≡ Ok q → q.0 ≡ objective P x
 passed_objective {P} R x {q} e = let r = verdict_rules P x q e in sym r.1 ∙ rules_profit P R x r.0

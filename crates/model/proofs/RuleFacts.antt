@@ -1,4 +1,5 @@
 -- What a passing verdict says, rule by rule, and rules 33 and 35 to 40 as facts about numbers; both ways. Assumes nothing.
+use Rattle.sections.specs.declared.Refusal.{Refusal}
 use Prim.Native.Nat.{ℕ, ◌+◌, ◌*◌, ◌<◌, ◌≤◌}
 use Prim.{Unit, tt}
 use mathlib.Core.Path.{◌≡◌, refl, ap, ◌∙◌}
@@ -15,15 +16,15 @@ use Rattle.plant_file.specs.Plant.{LinePlant, Plant}
 use Rattle.plan_file.specs.Plan.{LinePlan, Plan}
 use Rattle.units.specs.declared.Profit.{Profit}
 use Rattle.costs.specs.Changeover.{changeover_between}
-use Rattle.rules.specs.declared.Verdict.{Verdict}
-use Rattle.rules.specs.declared.Verdict.TheVariants.{Passed}
+use Rattle.std.specs.Prelude.{Ok}
 use Rattle.rules.specs.Rules.{week_of, rule33, rule35, rule36, rule37, rule38, rule39, rule40, rule41, changeovers_under, changeovers_in}
 use Rattle.rules.specs.Rules.{backlog_before, inventory_before, profit_of}
-use Rattle.rules.specs.Verdict.{Trial, rule, trials, tried, profit_tried, verdict_of}
+use Rattle.rules.specs.Verdict.{Verdict, Trial, rule, trials, tried, profit_tried, verdict_of}
 use Rattle.model.specs.Model.{TimeModel, BetweenModel, AmountModel}
 use Rattle.model.proofs.Money.{same_equal, equal_same}
 use Rattle.mathematics.proofs.Tables.{all_grid, grid_all}
 use Rattle.model.proofs.Changeovers.{under_add}
+use Rattle.sections.specs.declared.Refusal.TheVariants as refusal
 
 -- ---- the verdict
 -- each of these rules holds in every week
@@ -31,15 +32,15 @@ abbrev Kept : ℕ → List Trial → Type 0
 Kept weeks [] = Unit {0}
 Kept weeks (t ∷ ts) = ((w : ℕ) → w < weeks → t.keeps w ≡ true) × Kept weeks ts
 
-rule_passed : (n : ℕ) (t : Bool) (next : Verdict) (q : Profit) → rule n t next ≡ Passed q → (t ≡ true) × (next ≡ Passed q)
+rule_passed : (n : Refusal) (t : Bool) (next : Verdict) (q : Profit) → rule n t next ≡ Ok q → (t ≡ true) × (next ≡ Ok q)
 rule_passed n true next q e = (refl, e)
 rule_passed n false next q e = absurd (let z : ◌≡◌ {A = ℕ} 0 1 = cc in omega arith)
 
-tried_kept : (weeks : ℕ) (ts : List Trial) (last : Verdict) (q : Profit) → tried weeks ts last ≡ Passed q → Kept weeks ts × (last ≡ Passed q)
+tried_kept : (weeks : ℕ) (ts : List Trial) (last : Verdict) (q : Profit) → tried weeks ts last ≡ Ok q → Kept weeks ts × (last ≡ Ok q)
 unfolding tried
 tried_kept weeks [] last q e = (tt, e)
 tried_kept weeks (t ∷ ts) last q e =
-    let a = rule_passed t.number (all_below weeks t.keeps) (tried weeks ts last) q e in
+    let a = rule_passed t.refusal (all_below weeks t.keeps) (tried weeks ts last) q e in
     let b = tried_kept weeks ts last q a.1 in
     ((all_each weeks t.keeps a.0, b.0), b.1)
 
@@ -48,7 +49,7 @@ unfolding tried
 kept_tried weeks [] last k = refl
 kept_tried weeks (t ∷ ts) last k = rw (each_all weeks t.keeps k.0) (kept_tried weeks ts last k.1)
 
-same_profit : (p q : Profit) → Passed p ≡ Passed q → p.0 ≡ q.0
+same_profit : (p q : Profit) → ◌≡◌ {A = Verdict} (Ok p) (Ok q) → p.0 ≡ q.0
 same_profit p q e = let h : p ≡ q = cc in ap (λ (z : Profit). z.0) h
 
 -- every rule holds in every week
@@ -66,12 +67,12 @@ pub record RulesHold (P : Plant) (x : Plan) : Type 0 where
   pub r41 : rule41 P x ≡ true
 
 module _ (P : Plant) (x : Plan) where
-  pub verdict_rules : (q : Profit) → verdict_of P x ≡ Passed q → RulesHold P x × (x.profit ≡ q.0)
+  pub verdict_rules : (q : Profit) → verdict_of P x ≡ Ok q → RulesHold P x × (x.profit ≡ q.0)
   unfolding verdict_of trials profit_tried
   verdict_rules q e =
       let a = tried_kept P.weeks (trials P x) (profit_tried P x) q e in
       let k = a.0 in
-      let l = rule_passed 41 (rule41 P x) (Passed (record { 0 = x.profit })) q a.1 in (
+      let l = rule_passed refusal.Profit (rule41 P x) (Ok (record { 0 = x.profit })) q a.1 in (
         record {
           r31 = k.0;
           r32 = k.1.0;
@@ -88,7 +89,7 @@ module _ (P : Plant) (x : Plan) where
         same_profit (record { 0 = x.profit }) q l.1,
       )
 
-  pub rules_verdict : RulesHold P x → verdict_of P x ≡ Passed (record { 0 = x.profit })
+  pub rules_verdict : RulesHold P x → verdict_of P x ≡ Ok (record { 0 = x.profit })
   unfolding verdict_of trials profit_tried
   rules_verdict r =
       kept_tried P.weeks (trials P x) (profit_tried P x)

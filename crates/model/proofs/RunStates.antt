@@ -18,13 +18,12 @@ use Rattle.slot_file.specs.Slots.{Slot, order_of_slots, WeekFormed, Slots}
 use Rattle.slot_file.proofs.Orders.{order_below}
 use Rattle.costs.specs.Money.{revenue_of, backlog_charge_of, inventory_charge_of, changeover_charge_of}
 use Rattle.costs.proofs.Changeovers.{opening_below}
-use Rattle.costs.specs.declared.Mounted.{Mounted}
-use Rattle.costs.specs.declared.Mounted.TheVariants.{Product}
+use Rattle.std.specs.Prelude.{Some}
 use Rattle.machine.specs.declared.State.{State}
 use Rattle.machine.specs.State.{inventory_of, backlog_of, with_inventory, with_backlog, with_line, with_week, with_profit, with_mounted}
 use Rattle.costs.specs.Changeover.{changeover_to}
 use Rattle.machine.specs.Machine.{clock_after, week_begin, slot_done, week_input, inventory_after, backlog_after, booked, week_done}
-use Rattle.costs.specs.Mounted.{mounted_below}
+use Rattle.costs.specs.Mounted.{Mounted, mounted_below}
 use Rattle.machine.specs.Run.{opening, slots_done, ran_week, after}
 use Rattle.rules.specs.Rules.{week_of, production_end, mounted_after, mounted_before, changeovers_in, backlog_before, inventory_before}
 use Rattle.rules.specs.Rules.{revenue_in, changeover_charge_in, backlog_charge_in, inventory_charge_in}
@@ -83,7 +82,7 @@ slots_inventory P R (x ∷ xs) s h k i =
 -- what is mounted after some products is the last of them
 last_any : (m : Mounted) (p : ℕ) (ps : List ℕ) (i : ℕ) → is_mounted (last_of m (p ∷ ps)) i ≡ last_in (p ∷ ps) i
 last_any m p [] i = refl
-last_any m p (q ∷ ps) i = last_any (Product p) q ps i
+last_any m p (q ∷ ps) i = last_any (Some p) q ps i
 
 -- after none it is what was mounted before: a week of these products, by its tables
 mounted_step : (N : ℕ) (m : Mounted) (ps : List ℕ) (y : WeekTables) → ProductsBelow N ps → Agree N y (order_tables ps)

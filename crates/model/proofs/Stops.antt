@@ -18,8 +18,7 @@ use Rattle.plant_file.specs.Ranges.{PlantRanges}
 use Rattle.slot_file.specs.Slots.{Slot, order_of_slots, WeekFormed, Slots}
 use Rattle.slot_file.proofs.Orders.{order_below}
 use Rattle.machine.specs.declared.State.{State}
-use Rattle.machine.specs.declared.Step.{Step}
-use Rattle.machine.specs.State.{inventory_of, backlog_of, has_run, continues, first_met, and_then}
+use Rattle.machine.specs.State.{Step, inventory_of, backlog_of, has_run, continues, first_met, and_then}
 use Rattle.machine.specs.Machine.{week_begin, slot_done, slot_step, WeekInput, week_input, sold_of, sales_due, sales_in_stock, storage_kept, week_done, week_end}
 use Rattle.machine.specs.Run.{run_slots, run_week, run_weeks, run, slots_done, ran_week, after}
 use Rattle.machine.proofs.Steps.{met_none, SlotContinues, slot_continues, slot_continued, tries, week_continues, week_continued, storage_at_lem}

@@ -22,7 +22,7 @@ use Rattle.units.proofs.Signed.{mag_sub}
 use Rattle.costs.proofs.Changeovers.{between_most}
 use Rattle.costs.specs.Changeover.{changeover_between}
 use Rattle.machine.specs.declared.State.{State}
-use Rattle.rules.specs.declared.Verdict.TheVariants.{Passed}
+use Rattle.std.specs.Prelude.{Ok}
 use Rattle.rules.specs.Verdict.{verdict_of}
 use Rattle.rules.specs.Rules.{week_of, changeovers_under, changeovers_in, backlog_before, revenue_in, changeover_charge_in, backlog_charge_in, inventory_charge_in}
 use Rattle.rules.specs.Rules.{profit_of}
@@ -159,6 +159,6 @@ module _ {P : Plant} (R : PlantRanges P) {S : Slots} {s : State} {x : Plan} (g :
       }
 
 -- so do the slots that a passing plan shows
-pub shown_fit : {P : Plant} → PlantRanges P → {x : Plan} {q : Profit} → Binary P x → verdict_of P x ≡ Passed q
+pub shown_fit : {P : Plant} → PlantRanges P → {x : Plan} {q : Profit} → Binary P x → verdict_of P x ≡ Ok q
     → SlotsFit (shape_of_plant P) (slots_shown P.products x)
 shown_fit R b e = slots_fit R (passing_runs R b e).0

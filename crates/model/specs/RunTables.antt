@@ -5,21 +5,20 @@ use Rattle.mathematics.specs.Order.{assigned_in, first_in, last_in, position_in,
 use Rattle.plant_file.specs.Plant.{Plant}
 use Rattle.plan_file.specs.Plan.{LinePlan, Plan}
 use Rattle.slot_file.specs.Slots.{Slot, order_of_slots, LineSlots, Slots}
-use Rattle.costs.specs.declared.Mounted.{Mounted}
-use Rattle.costs.specs.declared.Mounted.TheVariants.{Nothing, Product}
-use Rattle.costs.specs.Mounted.{is_mounted}
+use Rattle.std.specs.Prelude.{None, Some}
+use Rattle.costs.specs.Mounted.{Mounted, is_mounted}
 use Rattle.machine.specs.State.{inventory_of, backlog_of}
 use Rattle.machine.specs.Run.{after}
 
 -- the product below N that has the mark
 abbrev pub mounted_of : ℕ → (ℕ → ℕ) → Mounted
-mounted_of zero mark = Nothing
-mounted_of (suc n) mark = cond (eqb (mark n) 1) (Product n) (mounted_of n mark)
+mounted_of zero mark = None
+mounted_of (suc n) mark = cond (eqb (mark n) 1) (Some n) (mounted_of n mark)
 
 -- what is mounted after these products, where m was before
 abbrev pub last_of : Mounted → List ℕ → Mounted
 last_of m [] = m
-last_of m (p ∷ ps) = last_of (Product p) ps
+last_of m (p ∷ ps) = last_of (Some p) ps
 
 -- "T, P are minutes and grams"
 abbrev pub minutes_of : List Slot → ℕ → ℕ

@@ -5,10 +5,9 @@ use Rattle.sections.specs.Limits.{nothing_mounted}
 use Rattle.plant_file.specs.Plant.{Plant}
 use Rattle.plan_file.specs.Plan.{Plan}
 use Rattle.slot_file.specs.Slots.{Slot, Slots}
-use Rattle.machine.specs.declared.Outcome.{Outcome}
+use Rattle.machine.specs.State.{Outcome}
 use Rattle.machine.specs.Run.{run}
-use Rattle.rules.specs.declared.Verdict.{Verdict}
-use Rattle.rules.specs.Verdict.{verdict_of}
+use Rattle.rules.specs.Verdict.{Verdict, verdict_of}
 use Rattle.model.specs.RunTables.{run_tables}
 
 -- a row and a table of numbers, 0 past their ends

@@ -7,8 +7,8 @@ use native.Mathlib.Omega.{arith}
 use Rattle.mathematics.proofs.OrderTheorem.{product_at_lem}
 use Rattle.numbers.specs.Number.{Bytes}
 use Rattle.sections.specs.declared.Shape.{Shape}
-use Rattle.sections.specs.declared.Form.{Form}
-use Rattle.sections.specs.declared.Form.TheVariants as form
+use Rattle.std.specs.Prelude.{Err, Ok}
+use Rattle.sections.specs.Rows.{Form}
 use Rattle.plant_file.specs.Plant.{plant_of}
 use Rattle.plant_file.specs.Form.{plant_form}
 use Rattle.plant_file.specs.Ranges.{PlantRanges}
@@ -18,10 +18,8 @@ use Rattle.plan_file.specs.Form.{plan_form}
 use Rattle.plan_file.proofs.PlanReads.{plan_shape, plan_fits}
 use Rattle.units.specs.declared.Profit.{Profit}
 use Rattle.machine.specs.Run.{after}
-use Rattle.rules.specs.declared.Verdict.{Verdict}
-use Rattle.rules.specs.declared.Verdict.TheVariants as verdict
 use Rattle.rules.specs.Rules.{week_of}
-use Rattle.rules.specs.Verdict.{verdict_of}
+use Rattle.rules.specs.Verdict.{Verdict, verdict_of}
 use Rattle.model.specs.RunTables.{mounted_at}
 use Rattle.model.specs.Model.{Binary}
 use Rattle.model.specs.Match.{Gives}
@@ -30,29 +28,27 @@ use Rattle.model.proofs.PlanRuns.{plan_meets}
 use Rattle.model.proofs.GivenPlans.{given_mounted}
 use Rattle.model.proofs.Agreement.{passing_runs, fits_binary}
 use Rattle.passed_plan.specs.declared.Pass.{Pass}
-use Rattle.passed_plan.specs.declared.Judgement.{Judgement}
-use Rattle.passed_plan.specs.declared.Judgement.TheVariants.{Passed}
-use Rattle.passed_plan.specs.Judgement.{after_rows, after_rules, plan_judgement, judgement_of}
+use Rattle.passed_plan.specs.Judgement.{Judgement, after_rows, after_rules, plan_judgement, judgement_of}
 use Rattle.passed_plan.specs.Shown.{week_count, week_product, week_mounted, shown_in, Ordered}
 
 -- ---- a judgement that passes, by its parts
 pub record Passing (f : Shape) (plant plan : List ℕ) (q : Profit) : Type 0 where
-  pub plant_good : plant_form plant ≡ form.Good f
-  pub plan_good : plan_form f plan ≡ form.Good f
-  pub passes : verdict_of (plant_of f plant) (plan_of f plan) ≡ verdict.Passed q
+  pub plant_good : plant_form plant ≡ Ok f
+  pub plan_good : plan_form f plan ≡ Ok f
+  pub passes : verdict_of (plant_of f plant) (plan_of f plan) ≡ Ok q
 
-rows_passed : (r : Form) (next : Shape → Judgement) (p : Pass) → after_rows r next ≡ Passed p → (g : Shape) × (r ≡ form.Good g) × (next g ≡ Passed p)
-rows_passed (form.Good g) next p e = (g, refl, e)
-rows_passed (form.Refused n) next p e = absurd (let z : ◌≡◌ {A = ℕ} 0 1 = cc in omega arith)
+rows_passed : (r : Form) (next : Shape → Judgement) (p : Pass) → after_rows r next ≡ Ok p → (g : Shape) × (r ≡ Ok g) × (next g ≡ Ok p)
+rows_passed (Ok g) next p e = (g, refl, e)
+rows_passed (Err n) next p e = absurd (let z : ◌≡◌ {A = ℕ} 0 1 = cc in omega arith)
 
-rules_passed : (f : Shape) (v : Verdict) (p : Pass) → after_rules f v ≡ Passed p → (p.shape ≡ f) × (v ≡ verdict.Passed p.profit)
-rules_passed f (verdict.Passed q) p e =
+rules_passed : (f : Shape) (v : Verdict) (p : Pass) → after_rules f v ≡ Ok p → (p.shape ≡ f) × (v ≡ Ok p.profit)
+rules_passed f (Ok q) p e =
     let h : ◌≡◌ {A = Pass} (record { shape = f; profit = q }) p = cc in
-    (ap (λ (p : Pass). p.shape) (sym h), ap (λ (p : Pass). verdict.Passed p.profit) h)
-rules_passed f (verdict.Broken n) p e = absurd (let z : ◌≡◌ {A = ℕ} 0 1 = cc in omega arith)
+    (ap (λ (p : Pass). p.shape) (sym h), ap (λ (p : Pass). Ok p.profit) h)
+rules_passed f (Err n) p e = absurd (let z : ◌≡◌ {A = ℕ} 0 1 = cc in omega arith)
 
 module _ (plant plan : List ℕ) where
-  pub judged_passing : (p : Pass) → judgement_of plant plan ≡ Passed p → Passing p.shape plant plan p.profit
+  pub judged_passing : (p : Pass) → judgement_of plant plan ≡ Ok p → Passing p.shape plant plan p.profit
   unfolding judgement_of plan_judgement
   judged_passing p e =
       let a = rows_passed (plant_form plant) (λ f. plan_judgement f plant plan) p e in
@@ -61,11 +57,11 @@ module _ (plant plan : List ℕ) where
       let c = rules_passed f (verdict_of (plant_of f plant) (plan_of f plan)) p b.2 in
       rw c.0 (record {
         plant_good = a.1;
-        plan_good = b.1 ∙ ap form.Good (plan_shape f plan b.1);
+        plan_good = b.1 ∙ ap Ok (plan_shape f plan b.1);
         passes = c.1;
       })
 
-  pub passing_judged : (f : Shape) (q : Profit) → Passing f plant plan q → judgement_of plant plan ≡ Passed (record { shape = f; profit = q })
+  pub passing_judged : (f : Shape) (q : Profit) → Passing f plant plan q → judgement_of plant plan ≡ Ok (record { shape = f; profit = q })
   unfolding judgement_of plan_judgement
   passing_judged f q h = rw (h.plant_good, h.plan_good, h.passes)
 

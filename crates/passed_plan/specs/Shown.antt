@@ -3,12 +3,12 @@ use Rattle.std.specs.Prelude.{ℕ, ◌<◌, ◌≡◌, List}
 use Rattle.mathematics.specs.Week.{count}
 use Rattle.mathematics.specs.Order.{product_at}
 use Rattle.sections.specs.declared.Shape.{Shape}
-use Rattle.sections.specs.declared.Form.TheVariants.{Good}
+use Rattle.std.specs.Prelude.{Ok}
+use Rattle.costs.specs.Mounted.{Mounted}
 use Rattle.plant_file.specs.Plant.{plant_of}
 use Rattle.plan_file.specs.Plan.{plan_of}
 use Rattle.plan_file.specs.Form.{plan_form}
 use Rattle.slot_file.specs.Slots.{Slot, Slots}
-use Rattle.costs.specs.declared.Mounted.{Mounted}
 use Rattle.rules.specs.Rules.{week_of, mounted_before}
 use Rattle.model.specs.RunTables.{mounted_of}
 use Rattle.model.specs.Match.{slots_shown}
@@ -34,5 +34,5 @@ week_slots f plan w = (shown_in f plan).line.week w
 
 -- a good plan in which each slot of each week has its product
 pub record Ordered (f : Shape) (plan : List ℕ) : Type 0 where
-  pub good : plan_form f plan ≡ Good f
+  pub good : plan_form f plan ≡ Ok f
   pub known : (w k : ℕ) → w < f.weeks → k < week_count f plan w → week_product f plan w k < f.products

@@ -4,20 +4,17 @@
 
 ghost use Rattle.std.specs.Prelude.{◌≡◌, cond, ◌≤◌, ◌<◌, eqb};
 ghost use Rattle.mathematics.specs.Below.{sum_below};
-ghost use Rattle.sections.specs.declared.Form.TheVariants.{Good};
 ghost use Rattle.plant_file.specs.Form.{plant_form};
 ghost use Rattle.plan_file.specs.Form.{plan_form};
-ghost use Rattle.costs.specs.declared.Mounted.TheVariants.{Product};
 ghost use Rattle.costs.specs.Mounted.{mounted_below};
-ghost use Rattle.rules.specs.Products.{Judged};
+ghost use Rattle.passed_plan.specs.Judged.{Judged};
 ghost use Rattle.passed_plan.specs.Judgement.{plan_judgement, judgement_of};
 ghost use Rattle.passed_plan.specs.Shown.{week_count, week_product, week_mounted};
 
-use costs::Mounted;
 use plan_file::plan_form;
 use plant_file::plant_form;
-use rules::{Verdict, judge, mounted_after, production_end};
-use sections::{Form, Shape};
+use rules::{judge, mounted_after, production_end};
+use sections::{Refusal, Shape};
 use units::Profit;
 
 // Of a plan that passes: the shape of its plant, and its profit.
@@ -27,39 +24,27 @@ pub struct Pass {
     pub profit: Profit,
 }
 
-#[derive(Clone, Copy)]
-pub enum Judgement {
-    Passed(Pass),
-    Refused(u32),
-}
-
 // What follows the plant's rows: the plan's rows, then the rules, each in order.
-pub fn judge_plan(plant: &[u8], plan: &[u8], f: Shape) -> Judgement
-    requires { plant_form plant.now ≡ Good f }
+pub fn judge_plan(plant: &[u8], plan: &[u8], f: Shape) -> Result<Pass, Refusal>
+    requires { plant_form plant.now ≡ Ok f }
     ensures { result ≡ plan_judgement f plant.now plan.now }
 {
-    match plan_form(plan, f) {
-        Form::Refused(n) => Judgement::Refused(n),
-        Form::Good(_) => match judge(plant, plan, f) {
-            Verdict::Passed(profit) => Judgement::Passed(Pass { shape: f, profit }),
-            Verdict::Broken(n) => Judgement::Refused(n),
-        },
-    }
+    plan_form(plan, f)?;
+    let profit = judge(plant, plan, f)?;
+    Ok(Pass { shape: f, profit })
 }
 
 // The plant's rows, then the plan's, then the rules.
-pub fn judge_files(plant: &[u8], plan: &[u8]) -> Judgement
+pub fn judge_files(plant: &[u8], plan: &[u8]) -> Result<Pass, Refusal>
     ensures { result ≡ judgement_of plant.now plan.now }
 {
-    match plant_form(plant) {
-        Form::Refused(n) => Judgement::Refused(n),
-        Form::Good(f) => judge_plan(plant, plan, f),
-    }
+    let f = plant_form(plant)?;
+    judge_plan(plant, plan, f)
 }
 
 // How many slots a week has.
 pub fn week_count(plan: &[u8], f: Shape, week: usize) -> usize
-    requires { (plan_form f plan.now ≡ Good f) × (week < f.weeks) }
+    requires { (plan_form f plan.now ≡ Ok f) × (week < f.weeks) }
     ensures { (result ≡ week_count f plan.now week) × (result ≤ f.products) }
 {
     let n = numbers::as_usize(f.products);
@@ -74,7 +59,7 @@ pub fn week_count(plan: &[u8], f: Shape, week: usize) -> usize
 
 // How many slots there are in all.
 pub fn slot_total(plan: &[u8], f: Shape) -> usize
-    requires { plan_form f plan.now ≡ Good f }
+    requires { plan_form f plan.now ≡ Ok f }
     ensures { (result ≡ sum_below f.weeks (week_count f plan.now)) × (result ≤ 65025) }
 {
     let weeks = numbers::as_usize(f.weeks);
@@ -89,7 +74,7 @@ pub fn slot_total(plan: &[u8], f: Shape) -> usize
 
 // The product of slot k of a week: the first whose place in the week is k + 1, or N where there is none.
 pub fn product_at(plan: &[u8], f: Shape, week: usize, k: usize) -> usize
-    requires { (plan_form f plan.now ≡ Good f) × (week < f.weeks) × (k < 256) }
+    requires { (plan_form f plan.now ≡ Ok f) × (week < f.weeks) × (k < 256) }
     ensures { result ≡ week_product f plan.now week k }
 {
     let n = numbers::as_usize(f.products);
@@ -105,24 +90,24 @@ pub fn product_at(plan: &[u8], f: Shape, week: usize, k: usize) -> usize
 }
 
 // A product with a mark of 1, else what was found before.
-fn chosen(mark: u64, product: usize, found: Mounted) -> Mounted
+fn chosen(mark: u64, product: usize, found: Option<u8>) -> Option<u8>
     requires { product < 256 }
-    ensures { result ≡ cond (eqb mark 1) (Product product) found }
+    ensures { result ≡ cond (eqb mark 1) (Some product) found }
 {
     if mark == 1 {
-        return Mounted::Product(product as u8);
+        return Some(product as u8);
     }
     found
 }
 
 // What is mounted before a week.
-pub fn mounted_product(plant: &[u8], plan: &[u8], f: Shape, week: usize) -> Mounted
+pub fn mounted_product(plant: &[u8], plan: &[u8], f: Shape, week: usize) -> Option<u8>
     requires { Judged plant.now plan.now f week }
     ensures { (result ≡ week_mounted f plant.now plan.now week) × mounted_below f.products result }
 {
     let n = numbers::as_usize(f.products);
     let weeks = production_end(plan, f, week);
-    let mut found = Mounted::Nothing;
+    let mut found = None;
     let mut product = 0;
     while product < n {
         let mark = mounted_after(plant, plan, f, weeks, product);

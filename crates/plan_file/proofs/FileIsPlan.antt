@@ -13,7 +13,7 @@ use Rattle.contents.specs.File.{start, Listable}
 use Rattle.contents.proofs.FileWritten as written
 use Rattle.sections.specs.Section.{in_range, grid, cube}
 use Rattle.sections.specs.declared.Shape.{Shape}
-use Rattle.sections.specs.declared.Form.TheVariants.{Good}
+use Rattle.std.specs.Prelude.{Ok}
 use Rattle.sections.proofs.Tables.{section_at, grid_at, cube_at}
 use Rattle.sections.proofs.Places.{Small}
 use Rattle.sections.proofs.Layouts.{table_rows}
@@ -118,7 +118,7 @@ module _ (f : Shape) (x : Plan) (small : Small f) where
           week_changeover = bits_by_pair 4 e.week_changeover b.week_changeover;
         })
 
-    pub file_good : plan_form f F ≡ Good f
+    pub file_good : plan_form f F ≡ Ok f
     unfolding plan_form plan_file plan_bodies
     file_good =
         let bodies = plan_bodies f x in

@@ -4,4 +4,3 @@ pub mod Access
 pub mod PlanIsFile
 pub mod FileIsPlan
 pub mod SamePlans
-pub mod Counts

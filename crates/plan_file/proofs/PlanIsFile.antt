@@ -13,7 +13,7 @@ use Rattle.contents.proofs.Facts.{placed_facts}
 use Rattle.contents.proofs.FileLayout.{file_is_layout}
 use Rattle.sections.specs.Section.{grid, cube}
 use Rattle.sections.specs.declared.Shape.{Shape}
-use Rattle.sections.specs.declared.Form.TheVariants.{Good}
+use Rattle.std.specs.Prelude.{Ok}
 use Rattle.sections.proofs.Rows.{laid_extent, laid_holds, width1, width2, width4, width8}
 use Rattle.sections.proofs.Layouts.{table_rows}
 use Rattle.sections.proofs.Tables.{grid_flat, cube_flat, section_is}
@@ -22,7 +22,7 @@ use Rattle.plan_file.specs.Form.{plan_lengths, plan_form}
 use Rattle.plan_file.specs.File.{plan_bodies, plan_file}
 use Rattle.plan_file.proofs.PlanReads.{plan_good, cell_below}
 
-module _ (f : Shape) (s : List ℕ) (b : Bytes s) (h : plan_form f s ≡ Good f) where
+module _ (f : Shape) (s : List ℕ) (b : Bytes s) (h : plan_form f s ≡ Ok f) where
   -- the body in a place is the encoding of its numbers
   body : (place : ℕ) → place < 12 → (k m : ℕ) → Width k → get_or (plan_lengths f) place 0 ≡ k * m
       → encode k m (cell k s place) ≡ part s (offset s place) (extent s place)

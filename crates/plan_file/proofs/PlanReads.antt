@@ -1,4 +1,5 @@
 -- WHAT A GOOD PLAN FILE HOLDS: it has passed each row, its bodies lie where they should, and its numbers fit. Assumes nothing.
+use Rattle.sections.specs.Rows.{Form}
 use Prim.Native.Nat.{ℕ, ◌+◌, ◌*◌, ◌^◌, ◌<◌}
 use mathlib.Core.Path.{◌≡◌}
 use mathlib.Core.Bool.{true}
@@ -14,11 +15,12 @@ use Rattle.contents.specs.Contents.{cell, offset, headed, placed, sized}
 use Rattle.contents.proofs.Facts.{Headed, headed_facts}
 use Rattle.sections.specs.Section.{in_range, Laid, cube}
 use Rattle.sections.specs.declared.Shape.{Shape}
-use Rattle.sections.specs.declared.Form.TheVariants.{Good}
+use Rattle.std.specs.Prelude.{Ok}
 use Rattle.sections.proofs.Rows.{row_good}
 use Rattle.sections.proofs.Tables.{range_first, cube_below, cube_flat}
 use Rattle.plan_file.specs.Plan.{line_plan_of, plan_of, PlanFits}
 use Rattle.plan_file.specs.Form.{plan_lengths, binary, plan_form}
+use Rattle.sections.specs.declared.Refusal.TheVariants as refusal
 
 -- row 14
 pub record Binary (s : List ℕ) (f : Shape) : Type 0 where
@@ -48,14 +50,14 @@ pub record PlanGood (f : Shape) (s : List ℕ) : Type 0 where
   pub laid : Laid s (plan_lengths f)
   pub bits : Binary s f
 
-module _ (f : Shape) (s : List ℕ) {g : Shape} (h : plan_form f s ≡ Good g) where
-  rows : (headed s 2 21 12 ≡ true) × (placed s 12 ≡ true) × (sized s (plan_lengths f) ≡ true) × (binary s f ≡ true) × (Good f ≡ Good g)
+module _ (f : Shape) (s : List ℕ) {g : Shape} (h : plan_form f s ≡ Ok g) where
+  rows : (headed s 2 21 12 ≡ true) × (placed s 12 ≡ true) × (sized s (plan_lengths f) ≡ true) × (binary s f ≡ true) × (◌≡◌ {A = Form} (Ok f) (Ok g))
   unfolding plan_form
   rows =
-      let a = row_good 11 (headed s 2 21 12) _ g h in
-      let b = row_good 12 (placed s 12) _ g a.1 in
-      let d = row_good 13 (sized s (plan_lengths f)) _ g b.1 in
-      let e = row_good 14 (binary s f) _ g d.1 in
+      let a = row_good refusal.PlanContents (headed s 2 21 12) _ g h in
+      let b = row_good refusal.PlanPlaces (placed s 12) _ g a.1 in
+      let d = row_good refusal.PlanLengths (sized s (plan_lengths f)) _ g b.1 in
+      let e = row_good refusal.PlanMarks (binary s f) _ g d.1 in
       (a.0, b.0, d.0, e.0, e.1)
 
   pub plan_good : PlanGood f s
@@ -89,7 +91,7 @@ pub sales_cube : (f : Shape) (s : List ℕ) → cube 4 f.customers f.products f.
 unfolding plan_of
 sales_cube f s = cube_flat 4 f.customers f.products f.weeks (cell 4 s 8)
 
-pub plan_fits : (f : Shape) (s : List ℕ) → Bytes s → plan_form f s ≡ Good f → PlanFits f (plan_of f s)
+pub plan_fits : (f : Shape) (s : List ℕ) → Bytes s → plan_form f s ≡ Ok f → PlanFits f (plan_of f s)
 unfolding plan_of line_plan_of
 plan_fits f s b h =
     let z = (plan_good f s h).bits in

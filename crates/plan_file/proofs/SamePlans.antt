@@ -5,7 +5,7 @@ use mathlib.Core.Logic.{◌↔◌}
 use mathlib.Core.List.{List}
 use Rattle.numbers.specs.Number.{Bytes}
 use Rattle.sections.specs.declared.Shape.{Shape}
-use Rattle.sections.specs.declared.Form.TheVariants.{Good}
+use Rattle.std.specs.Prelude.{Ok}
 use Rattle.plan_file.specs.Plan.{Plan, plan_of, SamePlan}
 use Rattle.plan_file.specs.Form.{plan_form}
 use Rattle.plan_file.specs.File.{plan_bodies, plan_file}
@@ -49,7 +49,7 @@ same_self f x =
       profit = refl;
     }
 
-pub plans_equal : (f : Shape) (s t : List ℕ) → Bytes s → Bytes t → plan_form f s ≡ Good f → plan_form f t ≡ Good f
+pub plans_equal : (f : Shape) (s t : List ℕ) → Bytes s → Bytes t → plan_form f s ≡ Ok f → plan_form f t ≡ Ok f
     → (s ≡ t) ↔ SamePlan f (plan_of f s) (plan_of f t)
 plans_equal f s t a b g h = (
   λ e. rw e (same_self f (plan_of f t)),

@@ -3,12 +3,12 @@
 use Rattle.std.specs.Prelude.{ℕ, ◌*◌, Bool, ◌&&◌, List, [], ◌∷◌}
 use Rattle.contents.specs.Contents.{headed, placed, sized}
 use Rattle.sections.specs.Section.{in_range}
-use Rattle.sections.specs.Rows.{row}
+use Rattle.sections.specs.Rows.{Form, row}
 use Rattle.sections.specs.Layout.{plan_kind, layout, lengths_of}
 use Rattle.sections.specs.declared.Layout.{Layout}
 use Rattle.sections.specs.declared.Shape.{Shape}
-use Rattle.sections.specs.declared.Form.{Form}
-use Rattle.sections.specs.declared.Form.TheVariants.{Good}
+use Rattle.std.specs.Prelude.{Ok}
+use Rattle.sections.specs.declared.Refusal.TheVariants as refusal
 
 -- sections 21 to 32. E, F, L, O: week, product, 1 byte; Z, ZF: week, from, to, 1 byte; T 2 bytes; P, V 4 bytes; S, Δ in section 5's order,
 -- 4 bytes; profit 8 bytes
@@ -43,8 +43,8 @@ binary s f =
 -- rows 11 to 14: a plan is a file of kind 2 with sections 21 to 32
 unfoldable pub plan_form : Shape → List ℕ → Form
 plan_form f s =
-    row 11 (headed s plan_kind.number plan_kind.first plan_kind.sections)
-    (row 12 (placed s plan_kind.sections)
-    (row 13 (sized s (plan_lengths f))
-    (row 14 (binary s f)
-    (Good f))))
+    row refusal.PlanContents (headed s plan_kind.number plan_kind.first plan_kind.sections)
+    (row refusal.PlanPlaces (placed s plan_kind.sections)
+    (row refusal.PlanLengths (sized s (plan_lengths f))
+    (row refusal.PlanMarks (binary s f)
+    (Ok f))))

@@ -2,3 +2,4 @@ pub mod Plan
 pub mod Form
 pub mod File
 pub mod Tables
+pub mod Accepted

@@ -1,24 +1,23 @@
 // Plan files, kind 2: the rows of refusal, the numbers of each section, and the writing of them.
 #![tactic(auto)]
 
-ghost use Rattle.std.specs.Prelude.{◌≡◌, ℕ, ◌+◌, ◌/◌, ◌%◌, ◌*◌, ◌≤◌, ◌<◌, ◌^◌, length, get_or};
+ghost use Rattle.std.specs.Prelude.{◌≡◌, ◌/◌, ◌%◌, ◌*◌, ◌≤◌, ◌<◌, ◌^◌, length, get_or, Ok};
 ghost use Rattle.mathematics.specs.Below.{sum_below};
 ghost use Rattle.numbers.specs.Number.{store};
 ghost use Rattle.contents.specs.Contents.{sized};
 ghost use Rattle.contents.specs.File.{start, contents_bytes};
 ghost use Rattle.sections.specs.Section.{Laid, cube};
-ghost use Rattle.sections.specs.declared.Form.TheVariants.{Good};
 ghost use Rattle.plan_file.specs.Plan.{plan_of};
-ghost use Rattle.plan_file.specs.Tables.{product_table_of, changeover_table_of, SumsOf};
+ghost use Rattle.plan_file.specs.Tables.{product_table_of, product_place, product_width, most_of, changeover_table_of, changeover_place};
+ghost use Rattle.plan_file.specs.Tables.{pair_place, SumsOf};
 ghost use Rattle.sections.specs.Layout.{plan_kind, contents_length, layout};
 ghost use Rattle.plan_file.specs.Form.{plan_layout, plan_lengths, binary, plan_form};
 
-use contents::{cell_in, is_headed, is_placed, is_sized};
-use numbers::{and, as_usize, signed};
-use sections::{
-    Form, Layout, Shape, area, copy_section, customer_sum, in_range, index2, pair_number, pair_row,
-    square_place, volume,
-};
+mod file;
+
+use contents::{is_headed, is_placed, is_sized};
+pub use file::PlanFile;
+use sections::{Layout, Refusal, Shape, area, in_range, volume};
 
 const KIND: u64 = 2;
 
@@ -26,48 +25,38 @@ const FIRST: u64 = 21;
 
 pub const SECTIONS: usize = 12;
 
-// The places of sections 21 to 32 in the contents.
-pub const ASSIGNED: usize = 0;
+// The places of sections 21 to 32 in the contents. They stay numbers: the loops here and in plan writing go from place to place, and by an enum
+// would turn each place into its section and back.
+pub const ASSIGNED: usize = ProductTable::Assigned as usize;
 
-pub const FIRST_MADE: usize = 1;
+pub const FIRST_MADE: usize = ProductTable::First as usize;
 
-pub const LAST_MADE: usize = 2;
+pub const LAST_MADE: usize = ProductTable::Last as usize;
 
-pub const CHANGEOVER: usize = 3;
+pub const CHANGEOVER: usize = ChangeoverTable::Within as usize;
 
-pub const WEEK_CHANGEOVER: usize = 4;
+pub const WEEK_CHANGEOVER: usize = ChangeoverTable::Between as usize;
 
-pub const POSITION: usize = 5;
+pub const POSITION: usize = ProductTable::Position as usize;
 
-pub const MINUTES: usize = 6;
+pub const MINUTES: usize = ProductTable::Minutes as usize;
 
-pub const PRODUCTION: usize = 7;
+pub const PRODUCTION: usize = ProductTable::Production as usize;
 
-pub const SALES: usize = 8;
+pub const SALES: usize = PairTable::Sales as usize;
 
-pub const INVENTORY: usize = 9;
+pub const INVENTORY: usize = ProductTable::Inventory as usize;
 
-pub const BACKLOG: usize = 10;
+pub const BACKLOG: usize = PairTable::Backlog as usize;
 
 pub const PROFIT: usize = 11;
 
-// A byte for each pair of products, week by week.
-fn squares(f: Shape) -> Layout
-    ensures { (result ≡ layout 1 f.weeks (f.products * f.products)) × (result.rows ≤ 65025) × (result.columns ≤ 65025) }
+// Rows of as many columns, and so many bytes for each number.
+fn table(width: usize, rows: usize, columns: usize) -> Layout
+    ensures { result ≡ layout width rows columns }
 {
     Layout {
-        width: 1,
-        rows: as_usize(f.weeks),
-        columns: area(f.products, f.products),
-    }
-}
-
-// Four bytes for each number.
-fn grams(rows: usize, columns: usize) -> Layout
-    ensures { result ≡ layout 4 rows columns }
-{
-    Layout {
-        width: 4,
+        width,
         rows,
         columns,
     }
@@ -78,44 +67,15 @@ pub fn layout(f: Shape, place: usize) -> Layout
     requires { place < plan_kind.sections }
     ensures { (result ≡ get_or (plan_layout f) place (layout 0 0 0)) × (result.width ≤ 8) × (result.rows ≤ 65025) × (result.columns ≤ 65025) }
 {
-    let weeks = as_usize(f.weeks);
-    let products = as_usize(f.products);
-    if place == CHANGEOVER {
-        return squares(f);
-    }
-    if place == WEEK_CHANGEOVER {
-        return squares(f);
-    }
-    if place == MINUTES {
-        return Layout {
-            width: 2,
-            rows: weeks,
-            columns: products,
-        };
-    }
-    if place == PRODUCTION {
-        return grams(weeks, products);
-    }
-    if place == SALES {
-        return grams(area(f.customers, f.products), weeks);
-    }
-    if place == INVENTORY {
-        return grams(weeks, products);
-    }
-    if place == BACKLOG {
-        return grams(area(f.customers, f.products), weeks);
-    }
-    if place == PROFIT {
-        return Layout {
-            width: 8,
-            rows: 1,
-            columns: 1,
-        };
-    }
-    Layout {
-        width: 1,
-        rows: weeks,
-        columns: products,
+    let weeks = usize::from(f.weeks);
+    let products = usize::from(f.products);
+    match place {
+        CHANGEOVER | WEEK_CHANGEOVER => table(1, weeks, area(f.products, f.products)),
+        MINUTES => table(2, weeks, products),
+        PRODUCTION | INVENTORY => table(4, weeks, products),
+        SALES | BACKLOG => table(4, area(f.customers, f.products), weeks),
+        PROFIT => table(8, 1, 1),
+        _ => table(1, weeks, products),
     }
 }
 
@@ -124,11 +84,9 @@ fn body_lengths(f: Shape) -> [u64; 12]
     ensures { result ≡ plan_lengths f }
 {
     let mut lengths = [0; 12];
-    let mut place = 0;
-    while place < SECTIONS {
+    for place in 0..SECTIONS {
         let x = layout(f, place);
         lengths[place] = (x.width * (x.rows * x.columns)) as u64;
-        place += 1;
     }
     lengths
 }
@@ -143,269 +101,115 @@ fn has_lengths(s: &[u8], f: Shape) -> bool
 }
 
 // Row 14.
+#[tactic(auto, unfolding(crate::specs::Form::binary))]
 fn is_binary(s: &[u8], f: Shape) -> bool
     requires { Laid s.now (plan_lengths f) }
     ensures { result ≡ binary s.now f }
 {
-    let wn = area(f.weeks, f.products);
-    let wnn = volume(f.weeks, f.products, f.products);
-    and(
-        in_range(s, ASSIGNED, 1, 0, wn, 0, 1),
-        and(
-            in_range(s, FIRST_MADE, 1, 0, wn, 0, 1),
-            and(
-                in_range(s, LAST_MADE, 1, 0, wn, 0, 1),
-                and(
-                    in_range(s, CHANGEOVER, 1, 0, wnn, 0, 1),
-                    in_range(s, WEEK_CHANGEOVER, 1, 0, wnn, 0, 1),
-                ),
-            ),
-        ),
-    )
+    let products = area(f.weeks, f.products);
+    let arcs = volume(f.weeks, f.products, f.products);
+    let assigned = in_range(s, ASSIGNED, 1, 0, products, 0, 1);
+    let first = in_range(s, FIRST_MADE, 1, 0, products, 0, 1);
+    let last = in_range(s, LAST_MADE, 1, 0, products, 0, 1);
+    let within = in_range(s, CHANGEOVER, 1, 0, arcs, 0, 1);
+    let between = in_range(s, WEEK_CHANGEOVER, 1, 0, arcs, 0, 1);
+    assigned && first && last && within && between
 }
 
 // Rows 11 to 14: good, or the number of the first row that turns the plan down.
-pub fn plan_form(s: &[u8], f: Shape) -> Form
+#[tactic(auto, unfolding(crate::specs::Form::plan_form))]
+pub fn plan_form(s: &[u8], f: Shape) -> Result<Shape, Refusal>
     ensures { result ≡ plan_form f s.now }
 {
     if !is_headed(s, KIND, FIRST, SECTIONS) {
-        return Form::Refused(11);
+        return Err(Refusal::PlanContents);
     }
     if !is_placed(s, SECTIONS) {
-        return Form::Refused(12);
+        return Err(Refusal::PlanPlaces);
     }
     if !has_lengths(s, f) {
-        return Form::Refused(13);
+        return Err(Refusal::PlanLengths);
     }
     if !is_binary(s, f) {
-        return Form::Refused(14);
+        return Err(Refusal::PlanMarks);
     }
-    Form::Good(f)
-}
-
-// E: whether a product is made in a week.
-pub fn assigned(s: &[u8], f: Shape, week: usize, product: usize) -> u64
-    requires { (plan_form f s.now ≡ Good f) × (week < f.weeks) × (product < f.products) }
-    ensures { (result ≡ (plan_of f s.now).line.assigned week product) × (result < 2) }
-{
-    cell_in(s, ASSIGNED, 1, index2(week, f.weeks, product, f.products))
-}
-
-// F: whether a product is the first of a week.
-pub fn first(s: &[u8], f: Shape, week: usize, product: usize) -> u64
-    requires { (plan_form f s.now ≡ Good f) × (week < f.weeks) × (product < f.products) }
-    ensures { (result ≡ (plan_of f s.now).line.first week product) × (result < 2) }
-{
-    cell_in(s, FIRST_MADE, 1, index2(week, f.weeks, product, f.products))
-}
-
-// L: whether a product is the last of a week.
-pub fn last(s: &[u8], f: Shape, week: usize, product: usize) -> u64
-    requires { (plan_form f s.now ≡ Good f) × (week < f.weeks) × (product < f.products) }
-    ensures { (result ≡ (plan_of f s.now).line.last week product) × (result < 2) }
-{
-    cell_in(s, LAST_MADE, 1, index2(week, f.weeks, product, f.products))
-}
-
-// O: a product's place in a week.
-pub fn position(s: &[u8], f: Shape, week: usize, product: usize) -> u64
-    requires { (plan_form f s.now ≡ Good f) × (week < f.weeks) × (product < f.products) }
-    ensures { (result ≡ (plan_of f s.now).line.position week product) × (result < 2 ^ 8) }
-{
-    cell_in(s, POSITION, 1, index2(week, f.weeks, product, f.products))
-}
-
-// T: the minutes that a product is made in a week.
-pub fn minutes(s: &[u8], f: Shape, week: usize, product: usize) -> u64
-    requires { (plan_form f s.now ≡ Good f) × (week < f.weeks) × (product < f.products) }
-    ensures { (result ≡ (plan_of f s.now).line.minutes week product) × (result < 2 ^ 16) }
-{
-    cell_in(s, MINUTES, 2, index2(week, f.weeks, product, f.products))
-}
-
-// P: the grams of a product made in a week.
-pub fn production(s: &[u8], f: Shape, week: usize, product: usize) -> u64
-    requires { (plan_form f s.now ≡ Good f) × (week < f.weeks) × (product < f.products) }
-    ensures { (result ≡ (plan_of f s.now).production week product) × (result < 2 ^ 32) }
-{
-    cell_in(s, PRODUCTION, 4, index2(week, f.weeks, product, f.products))
-}
-
-// V: the grams of a product in stock after a week.
-pub fn inventory(s: &[u8], f: Shape, week: usize, product: usize) -> u64
-    requires { (plan_form f s.now ≡ Good f) × (week < f.weeks) × (product < f.products) }
-    ensures { (result ≡ (plan_of f s.now).inventory week product) × (result < 2 ^ 32) }
-{
-    cell_in(s, INVENTORY, 4, index2(week, f.weeks, product, f.products))
-}
-
-// S by pair (customer times the count of products, plus product): a week's sales of its product to its customer.
-pub fn pair_sales(s: &[u8], f: Shape, pair: usize, week: usize) -> u64
-    requires { (plan_form f s.now ≡ Good f) × (pair < f.customers * f.products) × (week < f.weeks) }
-    ensures { (result ≡ (plan_of f s.now).sales (pair / f.products) (pair % f.products) week) × (result < 2 ^ 32) }
-{
-    let row = pair_row(s, f, SALES, pair);
-    pair_number(s, f, row, week)
-}
-
-// Stores section 29's bytes at the start of what is lent.
-pub fn write_sales(out: &mut [u8], s: &[u8], f: Shape)
-    requires { (plan_form f s.now ≡ Good f) × (4 * (f.customers * f.products * f.weeks) ≤ length out.old) }
-    ensures { out.new
-        ≡ store out.old 0 (cube 4 f.customers f.products f.weeks (plan_of f s.now).sales) }
-{
-    copy_section(out, s, SALES, 4, volume(f.customers, f.products, f.weeks));
-}
-
-// Δ by pair: what is owed of its product to its customer after a week.
-pub fn pair_backlog(s: &[u8], f: Shape, pair: usize, week: usize) -> u64
-    requires { (plan_form f s.now ≡ Good f) × (pair < f.customers * f.products) × (week < f.weeks) }
-    ensures { (result ≡ (plan_of f s.now).backlog (pair / f.products) (pair % f.products) week) × (result < 2 ^ 32) }
-{
-    let row = pair_row(s, f, BACKLOG, pair);
-    pair_number(s, f, row, week)
-}
-
-// The profit in thousandths of a cent.
-pub fn profit(s: &[u8], f: Shape) -> i64
-    requires { plan_form f s.now ≡ Good f }
-    ensures { result ≡ (plan_of f s.now).profit }
-{
-    signed(cell_in(s, PROFIT, 8, 0))
+    Ok(f)
 }
 
 // ---- tables by their names
 
-// The tables by week and product: E, F, L and T.
-#[derive(Clone, Copy)]
+// The tables by week and product, each the place of its section: E, F, L, O, T, P and V.
+#[derive(Clone, Copy, Debug, PartialEq, Eq)]
 pub enum ProductTable {
-    Assigned,
-    First,
-    Last,
-    Minutes,
+    Assigned = 0,
+    First = 1,
+    Last = 2,
+    Position = 5,
+    Minutes = 6,
+    Production = 7,
+    Inventory = 9,
 }
 
-// The tables of changeovers: Z, within the week, and ZF, from an earlier week.
-#[derive(Clone, Copy)]
+impl ProductTable {
+    // The place of its section.
+    fn place(self) -> usize
+        ensures { result ≡ product_place self }
+    {
+        self as usize
+    }
+
+    // How many bytes each number has.
+    fn width(self) -> usize
+        ensures { result ≡ product_width self }
+    {
+        match self {
+            ProductTable::Minutes => 2,
+            ProductTable::Production | ProductTable::Inventory => 4,
+            _ => 1,
+        }
+    }
+}
+
+// The tables of changeovers, each the place of its section: Z, within the week, and ZF, from an earlier week.
+#[derive(Clone, Copy, Debug, PartialEq, Eq)]
 pub enum ChangeoverTable {
-    Within,
-    Between,
+    Within = 3,
+    Between = 4,
 }
 
-// A product's number in a week.
-pub fn product_number(s: &[u8], f: Shape, table: ProductTable, week: usize, product: usize) -> u64
-    requires { (plan_form f s.now ≡ Good f) × (week < f.weeks) × (product < f.products) }
-    ensures { (result ≡ product_table_of table (plan_of f s.now).line week product) × (result < 2 ^ 16) }
-{
-    match table {
-        ProductTable::Assigned => assigned(s, f, week, product),
-        ProductTable::First => first(s, f, week, product),
-        ProductTable::Last => last(s, f, week, product),
-        ProductTable::Minutes => minutes(s, f, week, product),
+impl ChangeoverTable {
+    // The place of its section.
+    fn place(self) -> usize
+        ensures { result ≡ changeover_place self }
+    {
+        self as usize
     }
 }
 
-// The sum of a week's numbers.
-pub fn week_sum(s: &[u8], f: Shape, table: ProductTable, week: usize) -> u64
-    requires { (plan_form f s.now ≡ Good f) × (week < f.weeks) }
-    ensures { (result ≡ sum_below f.products (product_table_of table (plan_of f s.now).line week)) × (result < 2 ^ 24) }
-{
-    let n = as_usize(f.products);
-    let mut sum = 0;
-    let mut i = 0;
-    while i < n {
-        sum += product_number(s, f, table, week, i);
-        i += 1;
-    }
-    sum
+// The tables by customer, product and week, each the place of its section: S and Δ.
+#[derive(Clone, Copy, Debug, PartialEq, Eq)]
+pub enum PairTable {
+    Sales = 8,
+    Backlog = 10,
 }
 
-// Whether there is a changeover, by arc: the product before times the count of products, plus the product after.
-pub fn arc_changeover(s: &[u8], f: Shape, table: ChangeoverTable, week: usize, arc: usize) -> u64
-    requires { (plan_form f s.now ≡ Good f) × (week < f.weeks) × (arc < f.products * f.products) }
-    ensures { (result ≡ changeover_table_of table (plan_of f s.now).line week (arc / f.products) (arc % f.products)) × (result < 2) }
-{
-    let j = square_place(week, f.weeks, arc, f.products, f.products);
-    match table {
-        ChangeoverTable::Within => cell_in(s, CHANGEOVER, 1, j),
-        ChangeoverTable::Between => cell_in(s, WEEK_CHANGEOVER, 1, j),
+impl PairTable {
+    // The place of its section.
+    fn place(self) -> usize
+        ensures { result ≡ pair_place self }
+    {
+        self as usize
     }
-}
-
-// The same from one product to another.
-pub fn changeover(
-    s: &[u8],
-    f: Shape,
-    table: ChangeoverTable,
-    week: usize,
-    from: usize,
-    to: usize,
-) -> u64
-    requires { (plan_form f s.now ≡ Good f) × (week < f.weeks) × (from < f.products) × (to < f.products) }
-    ensures { (result ≡ changeover_table_of table (plan_of f s.now).line week from to) × (result < 2) }
-{
-    let arc = index2(from, f.products, to, f.products);
-    arc_changeover(s, f, table, week, arc)
 }
 
 // A week's sums of a table of changeovers, for at most 16 products: into each and out of it.
-#[derive(Clone, Copy)]
+#[derive(Clone, Copy, Debug, PartialEq, Eq)]
 pub struct ArcSums {
     pub into: [u8; 16],
     pub out: [u8; 16],
 }
 
-// Adds the marks out of one product to the sums into each, and says their sum.
-fn add_row(
-    s: &[u8],
-    f: Shape,
-    table: ChangeoverTable,
-    week: usize,
-    from: usize,
-    into: &mut [u8; 16],
-) -> u8
-    requires { (plan_form f s.now ≡ Good f) × (week < f.weeks) × (from < f.products) × (f.products ≤ 16) × (length into.old ≡ 16)
-        × ((j : ℕ) → j < f.products → get_or into.old j 0 ≤ from) }
-    ensures { (length into.new ≡ 16) × ((j : ℕ) → j < f.products
-        → get_or into.new j 0 ≡ get_or into.old j 0 + changeover_table_of table (plan_of f s.now).line week from j)
-        × ((j : ℕ) → j < f.products → get_or into.new j 0 ≤ from + 1)
-        × (result ≡ sum_below f.products (changeover_table_of table (plan_of f s.now).line week from)) }
-{
-    let n = as_usize(f.products);
-    let mut sum: u8 = 0;
-    let mut to = 0;
-    while to < n {
-        let mark = changeover(s, f, table, week, from, to) as u8;
-        into[to] += mark;
-        sum += mark;
-        to += 1;
-    }
-    sum
-}
-
-pub fn arc_sums(s: &[u8], f: Shape, table: ChangeoverTable, week: usize) -> ArcSums
-    requires { (plan_form f s.now ≡ Good f) × (week < f.weeks) × (f.products ≤ 16) }
-    ensures { SumsOf f.products (changeover_table_of table (plan_of f s.now).line week) result }
-{
-    let n = as_usize(f.products);
-    let mut into = [0; 16];
-    let mut out = [0; 16];
-    let mut from = 0;
-    while from < n {
-        let sum = add_row(s, f, table, week, from, &mut into);
-        out[from] = sum;
-        from += 1;
-    }
-    ArcSums { into, out }
-}
-
-// The grams of a product sold in a week, over all customers.
-pub fn sold(s: &[u8], f: Shape, week: usize, product: usize) -> u64
-    requires { (plan_form f s.now ≡ Good f) × (week < f.weeks) × (product < f.products) }
-    ensures { (result ≡ sum_below f.customers (λ c. (plan_of f s.now).sales c product week)) × (result < 2 ^ 40) }
-{
-    customer_sum(s, f, SALES, product, week)
-}
+// ---- the lengths and the contents of a plan file
 
 // Where the body in a place begins; after the last place, where the file ends.
 pub fn section_start(f: Shape, place: usize) -> usize
@@ -413,13 +217,7 @@ pub fn section_start(f: Shape, place: usize) -> usize
     ensures { (result ≡ start (plan_lengths f) place) × (result < 2 ^ 32) }
 {
     let lengths = body_lengths(f);
-    let mut at = 110;
-    let mut i = 0;
-    while i < place {
-        at += lengths[i] as usize;
-        i += 1;
-    }
-    at
+    contents::section_start(&lengths, place)
 }
 
 // The length of a plan file.
@@ -436,4 +234,133 @@ pub fn write_contents(out: &mut [u8], f: Shape)
 {
     let lengths = body_lengths(f);
     contents::write_contents(out, KIND, FIRST, &lengths);
+}
+
+// ---- the same of bytes and a shape
+
+pub fn assigned(s: &[u8], f: Shape, week: usize, product: usize) -> u64
+    requires { (plan_form f s.now ≡ Ok f) × (week < f.weeks) × (product < f.products) }
+    ensures { (result ≡ (plan_of f s.now).line.assigned week product) × (result < 2) }
+{
+    PlanFile { bytes: s, shape: f }.assigned(week, product)
+}
+
+pub fn first(s: &[u8], f: Shape, week: usize, product: usize) -> u64
+    requires { (plan_form f s.now ≡ Ok f) × (week < f.weeks) × (product < f.products) }
+    ensures { (result ≡ (plan_of f s.now).line.first week product) × (result < 2) }
+{
+    PlanFile { bytes: s, shape: f }.first(week, product)
+}
+
+pub fn last(s: &[u8], f: Shape, week: usize, product: usize) -> u64
+    requires { (plan_form f s.now ≡ Ok f) × (week < f.weeks) × (product < f.products) }
+    ensures { (result ≡ (plan_of f s.now).line.last week product) × (result < 2) }
+{
+    PlanFile { bytes: s, shape: f }.last(week, product)
+}
+
+pub fn position(s: &[u8], f: Shape, week: usize, product: usize) -> u64
+    requires { (plan_form f s.now ≡ Ok f) × (week < f.weeks) × (product < f.products) }
+    ensures { (result ≡ (plan_of f s.now).line.position week product) × (result < 2 ^ 8) }
+{
+    PlanFile { bytes: s, shape: f }.position(week, product)
+}
+
+pub fn minutes(s: &[u8], f: Shape, week: usize, product: usize) -> u64
+    requires { (plan_form f s.now ≡ Ok f) × (week < f.weeks) × (product < f.products) }
+    ensures { (result ≡ (plan_of f s.now).line.minutes week product) × (result < 2 ^ 16) }
+{
+    PlanFile { bytes: s, shape: f }.minutes(week, product)
+}
+
+pub fn production(s: &[u8], f: Shape, week: usize, product: usize) -> u64
+    requires { (plan_form f s.now ≡ Ok f) × (week < f.weeks) × (product < f.products) }
+    ensures { (result ≡ (plan_of f s.now).production week product) × (result < 2 ^ 32) }
+{
+    PlanFile { bytes: s, shape: f }.production(week, product)
+}
+
+pub fn inventory(s: &[u8], f: Shape, week: usize, product: usize) -> u64
+    requires { (plan_form f s.now ≡ Ok f) × (week < f.weeks) × (product < f.products) }
+    ensures { (result ≡ (plan_of f s.now).inventory week product) × (result < 2 ^ 32) }
+{
+    PlanFile { bytes: s, shape: f }.inventory(week, product)
+}
+
+pub fn pair_sales(s: &[u8], f: Shape, pair: usize, week: usize) -> u64
+    requires { (plan_form f s.now ≡ Ok f) × (pair < f.customers * f.products) × (week < f.weeks) }
+    ensures { (result ≡ (plan_of f s.now).sales (pair / f.products) (pair % f.products) week) × (result < 2 ^ 32) }
+{
+    PlanFile { bytes: s, shape: f }.pair_number(PairTable::Sales, pair, week)
+}
+
+pub fn write_sales(out: &mut [u8], s: &[u8], f: Shape)
+    requires { (plan_form f s.now ≡ Ok f) × (4 * (f.customers * f.products * f.weeks) ≤ length out.old) }
+    ensures { out.new
+        ≡ store out.old 0 (cube 4 f.customers f.products f.weeks (plan_of f s.now).sales) }
+{
+    PlanFile { bytes: s, shape: f }.write_sales(out);
+}
+
+pub fn pair_backlog(s: &[u8], f: Shape, pair: usize, week: usize) -> u64
+    requires { (plan_form f s.now ≡ Ok f) × (pair < f.customers * f.products) × (week < f.weeks) }
+    ensures { (result ≡ (plan_of f s.now).backlog (pair / f.products) (pair % f.products) week) × (result < 2 ^ 32) }
+{
+    PlanFile { bytes: s, shape: f }.pair_number(PairTable::Backlog, pair, week)
+}
+
+pub fn profit(s: &[u8], f: Shape) -> i64
+    requires { plan_form f s.now ≡ Ok f }
+    ensures { result ≡ (plan_of f s.now).profit }
+{
+    PlanFile { bytes: s, shape: f }.profit()
+}
+
+pub fn product_number(s: &[u8], f: Shape, table: ProductTable, week: usize, product: usize) -> u64
+    requires { (plan_form f s.now ≡ Ok f) × (week < f.weeks) × (product < f.products) }
+    ensures { (result ≡ product_table_of table (plan_of f s.now) week product) × (result < 2 ^ 32) × (result < most_of table) }
+{
+    PlanFile { bytes: s, shape: f }.number(table, week, product)
+}
+
+pub fn week_sum(s: &[u8], f: Shape, table: ProductTable, week: usize) -> u64
+    requires { (plan_form f s.now ≡ Ok f) × (week < f.weeks) }
+    ensures { (result ≡ sum_below f.products (product_table_of table (plan_of f s.now) week)) × (result < 2 ^ 8 * most_of table) }
+{
+    PlanFile { bytes: s, shape: f }.week_sum(table, week)
+}
+
+pub fn arc_changeover(s: &[u8], f: Shape, table: ChangeoverTable, week: usize, arc: usize) -> u64
+    requires { (plan_form f s.now ≡ Ok f) × (week < f.weeks) × (arc < f.products * f.products) }
+    ensures { (result ≡ changeover_table_of table (plan_of f s.now).line week (arc / f.products) (arc % f.products)) × (result < 2) }
+{
+    PlanFile { bytes: s, shape: f }.arc_changeover(table, week, arc)
+}
+
+pub fn changeover(
+    s: &[u8],
+    f: Shape,
+    table: ChangeoverTable,
+    week: usize,
+    from: usize,
+    to: usize,
+) -> u64
+    requires { (plan_form f s.now ≡ Ok f) × (week < f.weeks) × (from < f.products) × (to < f.products) }
+    ensures { (result ≡ changeover_table_of table (plan_of f s.now).line week from to) × (result < 2) }
+{
+    PlanFile { bytes: s, shape: f }.changeover(table, week, from, to)
+}
+
+pub fn arc_sums(s: &[u8], f: Shape, table: ChangeoverTable, week: usize) -> ArcSums
+    requires { (plan_form f s.now ≡ Ok f) × (week < f.weeks) × (f.products ≤ 16) }
+    ensures { SumsOf f.products (changeover_table_of table (plan_of f s.now).line week) result }
+{
+    PlanFile { bytes: s, shape: f }.arc_sums(table, week)
+}
+
+pub fn sold(s: &[u8], f: Shape, week: usize, product: usize) -> u64
+    requires { (plan_form f s.now ≡ Ok f) × (week < f.weeks) × (product < f.products) }
+    ensures { (result ≡ sum_below f.customers (λ c. (plan_of f s.now).sales c product week)) × (result < 2 ^ 40) }
+{
+    PlanFile { bytes: s, shape: f }.sold(week, product)
 }

@@ -5,4 +5,5 @@ pub mod Marks
 pub mod Amounts
 pub mod Rows
 pub mod RunWeeks
+pub mod Files
 pub mod Bodies

@@ -2,11 +2,14 @@
 use Prim.Native.Nat.{ℕ, zero, suc, ◌+◌, ◌*◌, ◌/◌, ◌%◌, ◌-◌, ◌≤◌, ◌<◌}
 use mathlib.Core.Path.{◌≡◌, refl, sym, ap, ◌∙◌}
 use mathlib.Core.Logic.{◌≢◌, ◌⊎◌, inl, inr}
+use mathlib.Core.Bool.{Bool, true, false, cond}
 use mathlib.Core.List.{List, [], ◌∷◌}
+use mir.Val.{bool_byte}
 use native.Mathlib.Omega.{arith}
 use native.Mathlib.Nat.{mul_comm, div-add-mod}
 use native.Mathlib.Decide.{ℕ_discrete}
 use lib.ListN.{length}
+use Rattle.std.proofs.Common.{nat_eq}
 use Rattle.mathematics.specs.Below.{sum_below, is}
 use Rattle.mathematics.specs.Order.{order_at, ProductsBelow, first_in, last_in, assigned_in, position_in, changeover_in}
 use Rattle.mathematics.proofs.Below.{sum_ext, is_same, is_other}
@@ -15,19 +18,27 @@ use Rattle.mathematics.proofs.OrderTables.{OrderFacts, assigned_sum, position_su
 use Rattle.numbers.specs.Number.{digits, encode, store}
 use Rattle.numbers.proofs.Number.{encode_ext}
 use Rattle.sections.specs.declared.Shape.{Shape}
-use Rattle.costs.specs.declared.Mounted.{Mounted}
-use Rattle.costs.specs.declared.Mounted.TheVariants.{Nothing, Product}
-use Rattle.costs.specs.Mounted.{is_mounted}
+use Rattle.std.specs.Prelude.{None, Some}
+use Rattle.costs.specs.Mounted.{Mounted, is_mounted}
 use Rattle.plan_writing.specs.Bodies.{section_of}
 use Rattle.plan_writing.specs.Line.{mark_row, some_mounted, marked_from, marked_to, stride_in, from_of}
 use Rattle.plan_writing.specs.Ran.{Cleared}
 use Rattle.plan_writing.proofs.Scatter.{stored, slot_stored}
 use Rattle.plan_writing.proofs.Zeros.{cleared_table}
 
+-- ---- a test as a number
+byte_is : (b : Bool) → bool_byte b ≡ cond b 1 0
+byte_is true = refl
+byte_is false = refl
+
+pub rise_is : (a b : ℕ) → bool_byte (nat_eq a b) ≡ is a b
+unfolding is
+rise_is a b = byte_is (nat_eq a b)
+
 -- ---- the slots that store lie in the week
 some_most : (m : Mounted) → some_mounted m ≤ 1
-some_most Nothing = omega arith
-some_most (Product p) = omega arith
+some_most None = omega arith
+some_most (Some p) = omega arith
 
 pub marked_within : (m : Mounted) (n place : ℕ) → place < 6 → 1 ≤ n → (marked_from n place ≤ marked_to m n place) × (marked_to m n place ≤ n)
 unfolding marked_from marked_to
@@ -177,9 +188,9 @@ module _ (m : Mounted) (ps : List ℕ) where
   between_marks N b l j = go m
     where
       go : (m : Mounted) → marks N 0 m ps 0 (some_mounted m - 0) j ≡ is_mounted m (j / N) * first_in ps (j % N)
-      go Nothing = omega arith
-      go (Product p) =
-          square (Product p) ps N b 0 1 j (omega arith)
+      go None = omega arith
+      go (Some p) =
+          square (Some p) ps N b 0 1 j (omega arith)
           ∙ (omega arith ∙ ap (λ (x : ℕ). is p (j / N) * x) (first_is m ps l (j % N)))
 
 marks_all : (N place : ℕ) → place < 6 → (m : Mounted) (ps : List ℕ) → ProductsBelow N ps → 1 ≤ length ps → (j : ℕ)

@@ -1,19 +1,19 @@
 -- The weeks of a run that never stops: their form, and inventory and backlog week by week. Assumes nothing.
 use Prim.Native.Nat.{ℕ, zero, suc, ◌+◌, ◌*◌, ◌-◌, ◌≤◌, ◌<◌}
 use mathlib.Core.Path.{◌≡◌, sym, ap, ◌∙◌}
+use mathlib.Core.Bool.{true}
 use mathlib.Core.List.{List}
 use native.Mathlib.Omega.{arith}
 use Rattle.mathematics.specs.Below.{sum_below}
+use Rattle.mathematics.specs.Order.{is_order}
 use Rattle.sections.specs.declared.Shape.{Shape}
-use Rattle.sections.specs.declared.Form.TheVariants.{Good}
+use Rattle.std.specs.Prelude.{Ok}
 use Rattle.sections.specs.Limits.{most_storage}
 use Rattle.plant_file.specs.Plant.{Plant, plant_of}
 use Rattle.plant_file.specs.Form.{plant_form}
 use Rattle.plant_file.specs.Ranges.{PlantRanges}
 use Rattle.plant_file.proofs.PlantInRange.{plant_ranges}
-use Rattle.slot_file.specs.Slots.{WeekFormed, Slots, slots_of}
-use Rattle.slot_file.specs.Row.{RowOf}
-use Rattle.slot_file.specs.declared.SlotRow.{SlotRow}
+use Rattle.slot_file.specs.Slots.{WeekFormed, Slots, slots_of, order_of_slots}
 use Rattle.slot_file.proofs.SlotReads.{slots_formed}
 use Rattle.machine.specs.declared.State.{State}
 use Rattle.machine.specs.State.{inventory_of, backlog_of, continues}
@@ -24,17 +24,17 @@ use Rattle.model.proofs.States.{opening_inventory, opening_backlog}
 use Rattle.model.proofs.RunStates.{mounted_below_lem, ran_backlog, ran_inventory, after_backlog, after_inventory}
 use Rattle.model.proofs.RunRules.{run_order}
 use Rattle.model.proofs.Stops.{WeekContinues, run_continued}
-use Rattle.plan_writing.specs.Ran.{Ran, WeekRow}
+use Rattle.plan_writing.specs.Ran.{Ran}
 
 pub times_same : {a b x y : ℕ} → a ≡ b → x ≡ y → a * x ≡ b * y
 times_same e d = λ u. e u * d u
 
 -- a plant has products and weeks
-pub sides : (f : Shape) (plant : List ℕ) → plant_form plant ≡ Good f → (0 < f.products) × (0 < f.weeks)
+pub sides : (f : Shape) (plant : List ℕ) → plant_form plant ≡ Ok f → (0 < f.products) × (0 < f.weeks)
 sides f plant good = let r = plant_ranges plant f good in (omega (arith, r.products_least), omega (arith, r.weeks_least))
 
 -- and not many products
-pub few_products : (f : Shape) (plant : List ℕ) → plant_form plant ≡ Good f → f.products ≤ 16
+pub few_products : (f : Shape) (plant : List ℕ) → plant_form plant ≡ Ok f → f.products ≤ 16
 few_products f plant good = (plant_ranges plant f good).products_most
 
 module _ (f : Shape) (plant slots : List ℕ) (h : Ran f plant slots) where
@@ -61,9 +61,8 @@ module _ (f : Shape) (plant slots : List ℕ) (h : Ran f plant slots) where
   week_continues = all_continue.0
 
   -- no week has a product twice
-  pub week_row : (row : SlotRow) → RowOf f slots row → row.week < f.weeks → WeekRow f slots row
-  week_row row r l =
-      record { row_of = r; week = l; once = run_order P ranges S row.week (formed row.week l) (week_continues row.week l) }
+  pub week_once : (w : ℕ) → w < f.weeks → is_order f.products (order_of_slots (S.line.week w)) ≡ true
+  week_once w l = run_order P ranges S w (formed w l) (week_continues w l)
 
   -- what is mounted is one of the products
   pub mounted_known_lem : (w : ℕ) → w ≤ f.weeks → mounted_below f.products (mounted_at P S w)

@@ -25,6 +25,13 @@ pub cleared_table : (k n : ℕ) (out : List ℕ) → Cleared (k * n) out → out
 cleared_table k n out h = cleared_zeros (k * n) out h ∙ ap (store out 0) (zero_table k n)
 
 module _ (n : ℕ) (s : List ℕ) (l : n ≤ length s) where
+  -- a stretch that is filled with zeros, before the rest
+  pub zeros_stored : (filled : List ℕ) → filled ≡ replicate (length (take n s)) 0 → filled ++ drop n s ≡ store s 0 (replicate n 0)
+  zeros_stored filled e =
+      let size = length-take-le n s l in
+      let rest : n ≡ 0 + length (replicate {A = ℕ} n 0) = omega (arith, length-replicate {A = ℕ} n 0) in
+      λ u. (e ∙ ap (λ (m : ℕ). replicate {A = ℕ} m 0) size) u ++ drop (rest u) s
+
   zeros_cleared : Cleared n (store s 0 (replicate n 0))
   zeros_cleared =
       let size = length-replicate {A = ℕ} n 0 in

@@ -1,3 +1,4 @@
 pub mod Ran
 pub mod Bodies
 pub mod Line
+pub mod Files

@@ -2,9 +2,8 @@
 use Rattle.std.specs.Prelude.{ℕ, zero, suc, ◌*◌, ◌-◌, ◌/◌, ◌%◌, cond, List, [], ◌∷◌, get_or, eqb}
 use Rattle.mathematics.specs.Order.{order_at, assigned_in, first_in, last_in, position_in, changeover_in}
 use Rattle.slot_file.specs.Slots.{Slot}
-use Rattle.costs.specs.declared.Mounted.{Mounted}
-use Rattle.costs.specs.declared.Mounted.TheVariants.{Nothing, Product}
-use Rattle.costs.specs.Mounted.{is_mounted}
+use Rattle.std.specs.Prelude.{None, Some}
+use Rattle.costs.specs.Mounted.{Mounted, is_mounted}
 use Rattle.model.specs.RunTables.{minutes_of}
 
 -- ---- E, F, L, Z, ZF and O: the products ps run, m is mounted before
@@ -23,8 +22,8 @@ mark_row N m ps place j =
 
 -- 1 where something is mounted
 abbrev pub some_mounted : Mounted → ℕ
-some_mounted Nothing = 0
-some_mounted (Product p) = 1
+some_mounted None = 0
+some_mounted (Some p) = 1
 
 -- the slots that store something, of n: from one on (L: the last; Z: the second), up to another (F: the first; ZF: the first, where something
 -- is mounted)
@@ -40,8 +39,8 @@ stride_in N place = cond (eqb place 3) N (cond (eqb place 4) N 0)
 
 -- the product that the line comes from to slot k: what is mounted, or the slot before
 abbrev pub product_of : Mounted → ℕ
-product_of Nothing = 0
-product_of (Product p) = p
+product_of None = 0
+product_of (Some p) = p
 
 abbrev pub from_of : Mounted → List ℕ → ℕ → ℕ
 from_of m ps zero = product_of m

@@ -2,36 +2,23 @@
 // The two arguments name the plant file and the plan file; with none they are plant.bin and plan.bin.
 #![tactic(auto)]
 
-use files::{argument_count, large_buffer, read_file, read_named};
+use files::{FileBytes, argument_count, read_file, read_named};
 use report::report_text;
-use std::rt::{Env, Files};
 
-fn print_report(rt: &impl Print, plant: &[u8], plan: &[u8]) {
+fn print_report(rt: &impl Print, plant: &FileBytes, plan: &FileBytes) {
     let mut text = [0; 16384];
-    let n = report_text(plant, plan, &mut text);
+    let n = report_text(plant.as_slice(), plan.as_slice(), &mut text);
     let _ = rt.write_all(&text[..n]);
-}
-
-fn report_files(rt: &(impl Files + Print)) {
-    let mut plant = large_buffer();
-    let n = read_file(rt, b"plant.bin", &mut plant);
-    let mut plan = large_buffer();
-    let m = read_file(rt, b"plan.bin", &mut plan);
-    print_report(rt, &plant[..n], &plan[..m]);
-}
-
-fn report_named(rt: &(impl Env + Files + Print)) {
-    let mut plant = large_buffer();
-    let n = read_named(rt, 1, &mut plant);
-    let mut plan = large_buffer();
-    let m = read_named(rt, 2, &mut plan);
-    print_report(rt, &plant[..n], &plan[..m]);
 }
 
 fn main(rt: HostRuntime) {
     match argument_count(&rt) {
-        1 => report_files(&rt),
-        3 => report_named(&rt),
+        1 => print_report(
+            &rt,
+            &read_file(&rt, b"plant.bin"),
+            &read_file(&rt, b"plan.bin"),
+        ),
+        3 => print_report(&rt, &read_named(&rt, 1), &read_named(&rt, 2)),
         _ => {
             let _ = eprintln!(rt; "usage: planreport [PLANT PLAN]");
         }

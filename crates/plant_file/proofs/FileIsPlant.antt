@@ -18,7 +18,7 @@ use Rattle.contents.specs.File.{start, Listable, file_of, contents_bytes}
 use Rattle.contents.proofs.FileWritten as written
 use Rattle.sections.specs.Section.{grid}
 use Rattle.sections.specs.declared.Shape.{Shape}
-use Rattle.sections.specs.declared.Form.TheVariants.{Good}
+use Rattle.std.specs.Prelude.{Ok}
 use Rattle.sections.specs.Layout.{layout, lengths_of}
 use Rattle.sections.specs.Limits.{most_storage, nothing_mounted, most_week_minutes}
 use Rattle.sections.proofs.Places.{Small}
@@ -285,7 +285,7 @@ module _ (p : Plant) (R : PlantRanges p) where
         week_most = rw e.week_minutes at R.week_most;
       }
 
-  pub file_good : plant_form F ≡ Good f
+  pub file_good : plant_form F ≡ Ok f
   unfolding plant_headed laid_out plant_file
   file_good =
       let k = plant_kind p.kind in
@@ -295,4 +295,4 @@ module _ (p : Plant) (R : PlantRanges p) where
       let lies = rw (bodies_count p) at (written.file_placed k.number 1 bodies small-kind listed) in
       let lens = rw (bodies_lengths p) at (written.file_sized k.number 1 bodies small-kind listed) in
       let three : eqb (extent F 0) 3 ≡ true = eq-eqb _ _ (size 0 (listed_first 0 (omega arith))) in
-      plant_accepted F (rw first_byte heads) (rw first_byte (both_and _ _ lies three)) (rw shape_is lens) (rw shape_is file_ranges) ∙ ap Good shape_is
+      plant_accepted F (rw first_byte heads) (rw first_byte (both_and _ _ lies three)) (rw shape_is lens) (rw shape_is file_ranges) ∙ ap Ok shape_is

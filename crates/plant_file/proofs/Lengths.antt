@@ -33,13 +33,3 @@ listable f h = go (has_mounted f.kind)
     go : (t : Bool) → Listable 1 (lengths_of (layout_before f (cond t (layout 1 1 2 ∷ []) [])))
     go true = let p = products f h in record { numbers = omega arith; offsets = omega arith }
     go false = let p = products f h in record { numbers = omega arith; offsets = omega arith }
-
--- where the bodies begin, by the lengths of all sections
-pub start_all : (f : Shape) (i : ℕ) → i ≤ (plant_kind f.kind).sections
-    → start (plant_lengths f) i ≡ 2 + 9 * (plant_kind f.kind).sections + sum_below i (λ j. get_or (all_lengths f) j 0)
-unfolding start
-start_all f i h =
-    let same : sum_below i (λ j. get_or (plant_lengths f) j 0) ≡ sum_below i (λ j. get_or (all_lengths f) j 0) =
-    sum_ext i _ _ (λ j l.
-    ap (λ (m : List ℕ). get_or m j 0) (sym (kind_takes f)) ∙ get_or-take (plant_kind f.kind).sections (all_lengths f) j 0 (omega arith)) in
-    omega (arith, kind_lengths f)

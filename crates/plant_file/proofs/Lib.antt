@@ -2,6 +2,7 @@ pub mod PlantKinds
 pub mod Cells
 pub mod Lengths
 pub mod PlantReads
+pub mod LaidAccess
 pub mod PlantInRange
 pub mod PlantAccepted
 pub mod PlantAccess

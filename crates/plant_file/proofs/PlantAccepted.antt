@@ -13,7 +13,7 @@ use Rattle.mathematics.proofs.Lists.{flat_each, flat_each3}
 use Rattle.contents.specs.Contents.{cell, sized}
 use Rattle.sections.specs.Section.{in_range, diagonal_zero}
 use Rattle.sections.specs.declared.Shape.{Shape}
-use Rattle.sections.specs.declared.Form.TheVariants.{Good}
+use Rattle.std.specs.Prelude.{Ok}
 use Rattle.sections.specs.Limits.{most_demand, nothing_mounted}
 use Rattle.plant_file.specs.Plant.{line_of, plant_of, rate_in, changeover_minutes_in, changeover_cents_in, demand_in, price_in, backlog_cost_in}
 use Rattle.plant_file.specs.Plant.{inventory_cost_in, least_storage_in, greatest_storage_in, opening_inventory_in, opening_backlog_in, shortest_run_in, week_minutes_in}
@@ -90,6 +90,6 @@ limits_pass f s R =
 
 -- a file past rows 1, 2 and 4 whose numbers are in their ranges
 pub plant_accepted : (s : List ℕ) → plant_headed s ≡ true → laid_out s ≡ true → sized s (plant_lengths (shape_of s)) ≡ true
-    → PlantRanges (plant_of (shape_of s) s) → plant_form s ≡ Good (shape_of s)
+    → PlantRanges (plant_of (shape_of s) s) → plant_form s ≡ Ok (shape_of s)
 unfolding plant_form
 plant_accepted s h l z R = rw (h, l, limits_pass (shape_of s) s R, z, ranges_pass s (shape_of s) R)

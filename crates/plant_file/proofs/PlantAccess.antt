@@ -1,30 +1,38 @@
--- Each number that a good plant file's sections have room for lies within the file. Assumes nothing.
+-- The numbers of an accepted plant file: each is in its range, and lies within the file. Assumes nothing.
 use Prim.Native.Nat.{ℕ, ◌+◌, ◌*◌, ◌/◌, ◌%◌, ◌≤◌, ◌<◌}
 use mathlib.Core.Path.{◌≡◌, sym, ap, ◌∙◌}
 use mathlib.Core.List.{List}
-use native.Mathlib.Omega.{arith}
 use lib.ListN.{get_or}
 use Rattle.mathematics.proofs.Pairs.{pair_of}
-use Rattle.numbers.specs.Number.{Width}
 use Rattle.contents.specs.Contents.{cell, Inside}
-use Rattle.sections.specs.declared.Shape.{Shape}
-use Rattle.sections.specs.declared.Form.TheVariants.{Good}
-use Rattle.sections.proofs.Rows.{laid_holds, holds_inside, width2, width4}
-use Rattle.plant_file.specs.Form.{plant_lengths, plant_form}
+use Rattle.sections.specs.Section.{Laid}
+use Rattle.sections.proofs.Rows.{holds_inside}
+use Rattle.plant_file.specs.declared.file.PlantFile.{PlantFile}
+use Rattle.plant_file.specs.declared.laid.LaidFile.{LaidFile}
+use Rattle.plant_file.proofs.LaidAccess.{holds2, holds4}
+use Rattle.plant_file.specs.Accepted.{plant_in}
+use Rattle.plant_file.specs.Form.{plant_lengths}
+use Rattle.plant_file.specs.Ranges.{PlantRanges}
 use Rattle.plant_file.proofs.PlantReads.{good_laid}
+use Rattle.plant_file.proofs.PlantInRange.{plant_ranges}
 
--- number j of the m numbers of k bytes that make up the section in a place
-held : {s : List ℕ} {f : Shape} (k : ℕ) → Width k → plant_form s ≡ Good f → (place : ℕ) → place < 11
-    → {m j : ℕ} → k * m ≤ get_or (plant_lengths f) place 0 → j < m → Inside s place k j
-held {s} {f} k w good place l {m} {j} h r = holds_inside (laid_holds (good_laid s f good) place (omega (arith, l)) k m w h) j r
+-- every number of an accepted file is in its range
+pub ranges : (x : PlantFile) → PlantRanges (plant_in x)
+ranges x = plant_ranges x.bytes.now x.shape x.accepted
 
-pub held2 : {s : List ℕ} {f : Shape} → plant_form s ≡ Good f → (place : ℕ) → place < 11
-    → {m j : ℕ} → 2 * m ≤ get_or (plant_lengths f) place 0 → j < m → Inside s place 2 j
-held2 = held 2 width2
+pub laid : (x : PlantFile) → Laid x.bytes.now (plant_lengths x.shape)
+laid x = good_laid x.bytes.now x.shape x.accepted
 
-pub held4 : {s : List ℕ} {f : Shape} → plant_form s ≡ Good f → (place : ℕ) → place < 11
-    → {m j : ℕ} → 4 * m ≤ get_or (plant_lengths f) place 0 → j < m → Inside s place 4 j
-held4 = held 4 width4
+abbrev pub laid_file : PlantFile → LaidFile
+laid_file x = record { bytes = x.bytes; shape = x.shape; laid = laid x }
+
+-- number j of the m numbers of 2 or 4 bytes that make up the section in a place
+module _ (x : PlantFile) (place : ℕ) (l : place < 11) {m j : ℕ} where
+  pub held2 : 2 * m ≤ get_or (plant_lengths x.shape) place 0 → j < m → Inside x.bytes.now place 2 j
+  held2 h = holds_inside (holds2 (laid_file x) place l {m = m} h) j
+
+  pub held4 : 4 * m ≤ get_or (plant_lengths x.shape) place 0 → j < m → Inside x.bytes.now place 4 j
+  held4 h = holds_inside (holds4 (laid_file x) place l {m = m} h) j
 
 -- an answer, by its equation and the range of what it equals
 pub answer : {r x b : ℕ} → r ≡ x → x ≤ b → (r ≡ x) × (r ≤ b)

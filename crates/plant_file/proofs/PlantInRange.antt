@@ -12,7 +12,7 @@ use Rattle.mathematics.proofs.Join.{table_below}
 use Rattle.contents.specs.Contents.{cell}
 use Rattle.sections.specs.Section.{in_range, diagonal_zero}
 use Rattle.sections.specs.declared.Shape.{Shape}
-use Rattle.sections.specs.declared.Form.TheVariants.{Good}
+use Rattle.std.specs.Prelude.{Ok}
 use Rattle.sections.proofs.Tables.{range_at, range_first, cube_below}
 use Rattle.sections.specs.Limits.{most_rate, most_changeover_minutes, most_changeover_cents, most_demand, most_unit_cost, most_storage, nothing_mounted}
 use Rattle.plant_file.specs.Plant.{line_of, plant_of, rate_in, changeover_minutes_in, changeover_cents_in, demand_in, price_in, backlog_cost_in}
@@ -67,7 +67,7 @@ storage_at_lem s n h i l =
     (all_each n (λ j. leb (cell 4 s 8 (2 * j)) (cell 4 s 8 (2 * j + 1)) && leb (cell 4 s 8 (2 * j + 1)) most_storage) h i l) in
     (leb-true _ _ r.0, leb-true _ _ r.1)
 
-pub plant_ranges : (s : List ℕ) (f : Shape) → plant_form s ≡ Good f → PlantRanges (plant_of f s)
+pub plant_ranges : (s : List ℕ) (f : Shape) → plant_form s ≡ Ok f → PlantRanges (plant_of f s)
 unfolding demand_in price_in backlog_cost_in inventory_cost_in least_storage_in greatest_storage_in opening_inventory_in opening_backlog_in shortest_run_in
     week_minutes_in mounted_in shut_before_in in_limits plant_in_range market_in_range opening_in_range time_in_range
 plant_ranges s f good =

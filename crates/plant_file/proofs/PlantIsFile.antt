@@ -14,7 +14,7 @@ use Rattle.contents.proofs.Facts.{headed_facts, placed_facts}
 use Rattle.contents.proofs.FileLayout.{file_is_layout}
 use Rattle.sections.specs.Section.{Laid, grid}
 use Rattle.sections.specs.declared.Shape.{Shape}
-use Rattle.sections.specs.declared.Form.TheVariants.{Good}
+use Rattle.std.specs.Prelude.{Ok}
 use Rattle.sections.proofs.Rows.{laid_extent, laid_holds, width1, width2, width4}
 use Rattle.sections.proofs.Tables.{grid_flat, cube_flat, section_is}
 use Rattle.plant_file.specs.Kinds.{plant_kind, has_mounted}
@@ -26,7 +26,7 @@ use Rattle.plant_file.specs.File.{plant_bodies, plant_file}
 use Rattle.plant_file.proofs.PlantKinds.{kind_sections, more_sections, kind_lengths, bodies_count}
 use Rattle.plant_file.proofs.PlantReads.{plant_good, good_laid}
 
-module _ (f : Shape) (s : List ℕ) (b : Bytes s) (good : plant_form s ≡ Good f) where
+module _ (f : Shape) (s : List ℕ) (b : Bytes s) (good : plant_form s ≡ Ok f) where
   laid : Laid s (plant_lengths f)
   laid = good_laid s f good
 

@@ -13,13 +13,14 @@ use Rattle.contents.specs.Contents.{extent, placed, sized}
 use Rattle.contents.proofs.Facts.{headed_facts, placed_facts, fits}
 use Rattle.sections.specs.Section.{Holds, Laid}
 use Rattle.sections.specs.declared.Shape.{Shape}
-use Rattle.sections.specs.declared.Form.TheVariants.{Good, Refused}
+use Rattle.std.specs.Prelude.{Err, Ok}
 use Rattle.sections.specs.Layout.{lengths_of}
 use Rattle.sections.proofs.Rows.{row_good, laid_holds, width1}
 use Rattle.plant_file.specs.Kinds.{plant_kind, has_mounted, contents_of}
 use Rattle.plant_file.specs.Form.{shape_of, laid_out, in_limits, mounted_layout, plant_lengths, mounted_in_range, line_in_range, plant_in_range}
 use Rattle.plant_file.specs.Form.{plant_headed, plant_form}
 use Rattle.plant_file.proofs.PlantKinds.{each_kind, kind_sections, kind_lengths}
+use Rattle.sections.specs.declared.Refusal.TheVariants as refusal
 
 -- row 1: long enough for its kind's contents
 pub plant_long : (s : List ℕ) → plant_headed s ≡ true → contents_of (get_or s 0 0) ≤ length s
@@ -61,6 +62,17 @@ plant_laid s f k h l z =
       lens = z;
     }
 
+-- the same of the shape that was read
+module _ (s : List ℕ) (f : Shape) (e : f ≡ shape_of s) (h : plant_headed s ≡ true) where
+  kind_is : get_or s 0 0 ≡ f.kind
+  kind_is = sym (ap (λ (x : Shape). x.kind) e ∙ shape_kind s)
+
+  pub shape_long : contents_of f.kind ≤ length s
+  shape_long = rw kind_is at (plant_long s h)
+
+  pub shape_laid : laid_out s ≡ true → sized s (plant_lengths f) ≡ true → Laid s (plant_lengths f)
+  shape_laid = plant_laid s f kind_is h
+
 -- section 12 has its two bytes in the kinds that have it
 pub mounted_holds : (s : List ℕ) (f : Shape) → Laid s (plant_lengths f) → has_mounted f.kind ≡ true → Holds s 11 1 2
 mounted_holds s f z h =
@@ -78,15 +90,15 @@ pub record PlantGood (s : List ℕ) (f : Shape) : Type 0 where
   pub lengths : sized s (plant_lengths f) ≡ true
   pub ranges : plant_in_range s f ≡ true
 
-pub plant_good : (s : List ℕ) (f : Shape) → plant_form s ≡ Good f → PlantGood s f
+pub plant_good : (s : List ℕ) (f : Shape) → plant_form s ≡ Ok f → PlantGood s f
 unfolding plant_form
 plant_good s f e =
     let g = shape_of s in
-    let p1 = row_good 1 (plant_headed s) _ f e in
-    let p2 = row_good 2 (laid_out s) _ f p1.1 in
-    let p3 = row_good 3 (in_limits g) _ f p2.1 in
-    let p4 = row_good 4 (sized s (plant_lengths g)) _ f p3.1 in
-    let p5 = row_good 5 (plant_in_range s g) _ f p4.1 in
+    let p1 = row_good refusal.PlantContents (plant_headed s) _ f e in
+    let p2 = row_good refusal.PlantPlaces (laid_out s) _ f p1.1 in
+    let p3 = row_good refusal.PlantLimits (in_limits g) _ f p2.1 in
+    let p4 = row_good refusal.PlantLengths (sized s (plant_lengths g)) _ f p3.1 in
+    let p5 = row_good refusal.PlantRanges (plant_in_range s g) _ f p4.1 in
     let q : g ≡ f = cc in
     record {
       shape = q;
@@ -98,11 +110,11 @@ plant_good s f e =
       ranges = rw q at p5.0;
     }
 
-pub good_laid : (s : List ℕ) (f : Shape) → plant_form s ≡ Good f → Laid s (plant_lengths f)
+pub good_laid : (s : List ℕ) (f : Shape) → plant_form s ≡ Ok f → Laid s (plant_lengths f)
 good_laid s f e = let g = plant_good s f e in plant_laid s f g.kind g.head g.laid g.lengths
 
 -- row 1: the kind byte is a kind's number
-pub known_number : (s : List ℕ) (f : Shape) → plant_form s ≡ Good f → (plant_kind f.kind).number ≡ f.kind
+pub known_number : (s : List ℕ) (f : Shape) → plant_form s ≡ Ok f → (plant_kind f.kind).number ≡ f.kind
 unfolding plant_headed
 known_number s f e =
     let g = plant_good s f e in
@@ -111,7 +123,7 @@ known_number s f e =
 
 -- section 12 out of its range is row 5, of a file past rows 1 to 4
 pub outside_refused : (s : List ℕ) → plant_headed s ≡ true → laid_out s ≡ true → in_limits (shape_of s) ≡ true
-    → sized s (plant_lengths (shape_of s)) ≡ true → mounted_in_range s (shape_of s) ≡ false → plant_form s ≡ Refused 5
+    → sized s (plant_lengths (shape_of s)) ≡ true → mounted_in_range s (shape_of s) ≡ false → plant_form s ≡ Err refusal.PlantRanges
 unfolding plant_form plant_in_range line_in_range
 outside_refused s h l i z m = rw (h, l, i, z, m, and_false, and_false, and_false, and_false) refl
 
@@ -126,10 +138,10 @@ headed_kinds s h =
     (λ k. get_or s 0 0 ≡ k.number → get_or s 1 0 ≡ k.sections → ((get_or s 0 0 ≡ 1) × (get_or s 1 0 ≡ 11)) ⊎ ((get_or s 0 0 ≡ 4) × (get_or s 1 0 ≡ 12)))
     (λ a b. inl (a, b)) (λ a b. inr (a, b)) (get_or s 0 0) g.kinds g.counts
 
-pub other_pair : (s : List ℕ) → ((get_or s 0 0 ≡ 1) × (get_or s 1 0 ≡ 11) → ⊥) → ((get_or s 0 0 ≡ 4) × (get_or s 1 0 ≡ 12) → ⊥) → plant_form s ≡ Refused 1
+pub other_pair : (s : List ℕ) → ((get_or s 0 0 ≡ 1) × (get_or s 1 0 ≡ 11) → ⊥) → ((get_or s 0 0 ≡ 4) × (get_or s 1 0 ≡ 12) → ⊥) → plant_form s ≡ Err refusal.PlantContents
 unfolding plant_form
 other_pair s one four = go (plant_headed s) refl
   where
-    go : (t : Bool) → plant_headed s ≡ t → plant_form s ≡ Refused 1
+    go : (t : Bool) → plant_headed s ≡ t → plant_form s ≡ Err refusal.PlantContents
     go true e = absurd (elim (headed_kinds s e) [ inl h ↦ one h | inr h ↦ four h ])
     go false e = rw e refl

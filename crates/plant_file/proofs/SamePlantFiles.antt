@@ -14,7 +14,7 @@ use Rattle.contents.specs.Contents.{entry_at, entry, offset, extent, cell}
 use Rattle.contents.proofs.Facts.{Placed, placed_facts, offset_sum}
 use Rattle.sections.specs.Section.{Laid}
 use Rattle.sections.specs.declared.Shape.{Shape}
-use Rattle.sections.specs.declared.Form.TheVariants.{Good}
+use Rattle.std.specs.Prelude.{Ok}
 use Rattle.sections.specs.Limits.{nothing_mounted}
 use Rattle.sections.proofs.Rows.{laid_extent}
 use Rattle.sections.proofs.Bodies.{grid_ext, cube_ext}
@@ -80,7 +80,7 @@ unfolding plant_kind
 lengths_count f e = kind_lengths f ∙ ap (λ (kind : ℕ). (plant_kind kind).sections) e
 
 -- section 12's two bytes are the file's last
-pub section_bytes : (f : Shape) (s : List ℕ) → plant_form s ≡ Good f → f.kind ≡ 4
+pub section_bytes : (f : Shape) (s : List ℕ) → plant_form s ≡ Ok f → f.kind ≡ 4
     → ((plant_of f s).line.mounted ≡ get_or s (length s - 2) 0) × ((plant_of f s).line.shut_before ≡ get_or s (length s - 1) 0)
 unfolding mounted_in shut_before_in
 section_bytes f s good four =
@@ -92,7 +92,7 @@ section_bytes f s good four =
     (sym (byte_cell s 11 0 (length s - 2) (omega arith)), sym (byte_cell s 11 1 (length s - 1) (omega arith)))
 
 -- the first file's rows are enough: the other's contents are the same
-pub same_numbers : (f : Shape) (a b : List ℕ) → plant_form a ≡ Good f → f.kind ≡ 4 → ((j : ℕ) → j + 1 < length a → get_or b j 0 ≡ get_or a j 0)
+pub same_numbers : (f : Shape) (a b : List ℕ) → plant_form a ≡ Ok f → f.kind ≡ 4 → ((j : ℕ) → j + 1 < length a → get_or b j 0 ≡ get_or a j 0)
     → SamePlant (plant_of f a) (plant_of f b)
 unfolding rate_in changeover_minutes_in changeover_cents_in demand_in price_in backlog_cost_in inventory_cost_in least_storage_in greatest_storage_in
     opening_inventory_in opening_backlog_in shortest_run_in week_minutes_in mounted_in

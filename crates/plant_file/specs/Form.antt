@@ -3,16 +3,16 @@ use Rattle.std.specs.Prelude.{ℕ, ◌+◌, ◌*◌, Bool, true, ◌&&◌, ◌||
 use Rattle.mathematics.specs.Below.{all_below, within}
 use Rattle.contents.specs.Contents.{extent, cell, headed, placed, sized}
 use Rattle.sections.specs.Section.{in_range, diagonal_zero}
-use Rattle.sections.specs.Rows.{row}
+use Rattle.sections.specs.Rows.{Form, row}
 use Rattle.sections.specs.Layout.{layout, lengths_of}
 use Rattle.sections.specs.declared.Layout.{Layout}
 use Rattle.sections.specs.declared.Shape.{Shape}
-use Rattle.sections.specs.declared.Form.{Form}
-use Rattle.sections.specs.declared.Form.TheVariants.{Good}
+use Rattle.std.specs.Prelude.{Ok}
 use Rattle.sections.specs.Limits.{most_products, most_customers, most_weeks, most_rate, most_changeover_minutes, most_changeover_cents, most_demand}
 use Rattle.sections.specs.Limits.{most_unit_cost, most_storage, nothing_mounted, most_week_minutes}
 use Rattle.plant_file.specs.Kinds.{plant_kind, has_mounted, file_kind}
 use Rattle.plant_file.specs.Plant.{mounted_in, shut_before_in}
+use Rattle.sections.specs.declared.Refusal.TheVariants as refusal
 
 -- the kind byte; section 1: N, C, W, a byte each
 unfoldable pub shape_of : List ℕ → Shape
@@ -112,9 +112,9 @@ plant_in_range s f =
 -- rows 1 to 5: a plant is a file of kind 1 with sections 1 to 11, or of kind 4 with sections 1 to 12
 unfoldable pub plant_form : List ℕ → Form
 plant_form s =
-    row 1 (plant_headed s)
-    (row 2 (laid_out s)
-    (row 3 (in_limits (shape_of s))
-    (row 4 (sized s (plant_lengths (shape_of s)))
-    (row 5 (plant_in_range s (shape_of s))
-    (Good (shape_of s))))))
+    row refusal.PlantContents (plant_headed s)
+    (row refusal.PlantPlaces (laid_out s)
+    (row refusal.PlantLimits (in_limits (shape_of s))
+    (row refusal.PlantLengths (sized s (plant_lengths (shape_of s)))
+    (row refusal.PlantRanges (plant_in_range s (shape_of s))
+    (Ok (shape_of s))))))

@@ -6,3 +6,4 @@ pub mod Same
 pub mod Rates
 pub mod Ranges
 pub mod Rows
+pub mod Accepted

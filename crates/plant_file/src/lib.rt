@@ -1,13 +1,12 @@
 // Plant files, kinds 1 and 4: the rows of refusal, the numbers of each section, and the writing of them; lists of rates.
 #![tactic(auto)]
 
-ghost use Rattle.std.specs.Prelude.{◌≡◌, ◌⊎◌, true, cond, [], ◌++◌, ◌+◌, ◌*◌, ◌/◌, ◌%◌, ◌^◌, ◌≤◌, ◌<◌, length, get_or};
+ghost use Rattle.std.specs.Prelude.{◌≡◌, ◌⊎◌, [], ◌++◌, ◌+◌, ◌*◌, ◌/◌, ◌%◌, ◌^◌, ◌≤◌, ◌<◌, length, get_or};
 ghost use Rattle.mathematics.specs.Below.{all_below, within};
 ghost use Rattle.numbers.specs.Number.{digits, encode, store};
-ghost use Rattle.contents.specs.Contents.{cell, sized};
+ghost use Rattle.contents.specs.Contents.{sized};
 ghost use Rattle.contents.specs.File.{start, contents_bytes};
-ghost use Rattle.sections.specs.Section.{Holds, Laid};
-ghost use Rattle.sections.specs.declared.Form.TheVariants.{Good};
+ghost use Rattle.sections.specs.Section.{Holds};
 ghost use Rattle.sections.specs.Limits.{most_rate, most_changeover_minutes, most_changeover_cents, most_demand, most_unit_cost, most_storage};
 ghost use Rattle.sections.specs.Limits.{most_opening_backlog, nothing_mounted, most_week_minutes};
 ghost use Rattle.plant_file.specs.Kinds.{plant_kind, has_mounted, contents_of};
@@ -15,20 +14,22 @@ ghost use Rattle.plant_file.specs.Plant.{plant_of};
 ghost use Rattle.plant_file.specs.Rows.{DemandRow};
 ghost use Rattle.plant_file.specs.Rates.{listed_rate, rates_form};
 ghost use Rattle.plant_file.specs.File.{plant_bodies};
-ghost use Rattle.plant_file.specs.Form.{shape_of, plant_headed, laid_out, in_limits, all_lengths, plant_lengths, plant_in_range, plant_form};
-ghost use Rattle.plant_file.specs.Form.{diagonals_in_range, mounted_known, mounted_in_range, line_in_range, market_in_range, storage_in_range};
-ghost use Rattle.plant_file.specs.Form.{opening_in_range, time_in_range};
+ghost use Rattle.plant_file.specs.Form.{shape_of, plant_headed, laid_out, in_limits, all_lengths, plant_lengths, mounted_known, plant_form};
 
-use contents::{cell_in, entry_in, is_headed, is_placed, is_sized};
-use numbers::{and, as_usize, inside, read4, wide, write};
-use sections::{
-    Form, PairRow, Shape, area, copy_section, diagonal_zero, in_range, pair_number, pair_row,
-    volume,
-};
+mod file;
+mod laid;
+mod rates;
+
+use contents::{entry_in, is_headed, is_placed, is_sized};
+pub use file::PlantFile;
+use laid::LaidFile;
+use numbers::{read, write};
+pub use rates::RateList;
+use sections::{PairRow, Refusal, Shape, area, copy_section, volume};
 
 const FIRST: u64 = 1;
 
-// The places of sections 1 to 12 in the contents.
+// The places of sections 1 to 12 in the contents. They are numbers, as the contents take a place by its number and the writing counts them.
 pub const SHAPE: usize = 0;
 
 pub const RATE: usize = 1;
@@ -83,7 +84,7 @@ pub const NOTHING_MOUNTED: u64 = 255;
 
 // What a kind of plant file has: its number, how many sections from section 1 on, the most grams of opening backlog, and whether the
 // diagonals of sections 3 and 4 may be filled.
-#[derive(Clone, Copy)]
+#[derive(Clone, Copy, Debug, PartialEq, Eq)]
 struct PlantKind {
     number: u64,
     sections: usize,
@@ -91,23 +92,24 @@ struct PlantKind {
     diagonals: bool,
 }
 
-// The table of kinds. A byte that is no kind's has what kind 1 has, and row 1 refuses it.
+// The table of kinds. The kind stays a byte, as a shape may have any byte: one that is no kind's has what kind 1 has, and row 1 refuses it.
+#[tactic(auto, unfolding(crate::specs::Kinds::plant_kind))]
 fn plant_kind(kind: u8) -> PlantKind
     ensures { result ≡ plant_kind kind }
 {
-    if kind == 4 {
-        return PlantKind {
+    match kind {
+        4 => PlantKind {
             number: 4,
             sections: 12,
             backlog: MOST_OPENING_BACKLOG,
             diagonals: false,
-        };
-    }
-    PlantKind {
-        number: 1,
-        sections: 11,
-        backlog: MOST_KIND_ONE_BACKLOG,
-        diagonals: false,
+        },
+        _ => PlantKind {
+            number: 1,
+            sections: 11,
+            backlog: MOST_KIND_ONE_BACKLOG,
+            diagonals: false,
+        },
     }
 }
 
@@ -115,21 +117,22 @@ fn plant_kind(kind: u8) -> PlantKind
 fn kind_of(s: &[u8]) -> PlantKind
     ensures { result ≡ plant_kind (get_or s.now 0 0) }
 {
-    if s.len() == 0 {
-        return plant_kind(0);
+    match s.first() {
+        Some(kind) => plant_kind(*kind),
+        None => plant_kind(0),
     }
-    plant_kind(s[0])
 }
 
 // Whether the kind has section 12.
+#[tactic(auto, unfolding(crate::specs::Kinds::has_mounted))]
 fn has_mounted(f: Shape) -> bool
     ensures { result ≡ has_mounted f.kind }
 {
-    let k = plant_kind(f.kind);
-    k.sections == 12
+    plant_kind(f.kind).sections == 12
 }
 
 // Row 1.
+#[tactic(auto, using(crate::proofs::PlantKinds::kind_sections), unfolding(crate::specs::Form::plant_headed))]
 fn is_plant_headed(s: &[u8]) -> bool
     ensures { result ≡ plant_headed s.now }
 {
@@ -138,50 +141,45 @@ fn is_plant_headed(s: &[u8]) -> bool
 }
 
 // Row 2.
+#[tactic(auto, using(crate::proofs::PlantKinds::kind_sections), unfolding(crate::specs::Form::laid_out))]
 fn is_laid_out(s: &[u8]) -> bool
     requires { contents_of (get_or s.now 0 0) ≤ length s.now }
     ensures { result ≡ laid_out s.now }
 {
     let k = kind_of(s);
-    let e = entry_in(s, SHAPE);
-    and(is_placed(s, k.sections), e.length == 3)
+    is_placed(s, k.sections) && entry_in(s, SHAPE).length == 3
 }
 
 // Section 1.
+#[tactic(auto, using(crate::proofs::Cells::byte_cell), unfolding(crate::specs::Form::shape_of))]
 fn shape_of(s: &[u8]) -> Shape
     requires { Holds s.now 0 1 3 }
     ensures { result ≡ shape_of s.now }
 {
-    let e = entry_in(s, SHAPE);
-    let a = e.offset as usize;
-    let b = a + 1;
-    let c = a + 2;
+    let at = entry_in(s, SHAPE).offset as usize;
     Shape {
         kind: s[0],
-        products: s[a],
-        customers: s[b],
-        weeks: s[c],
+        products: s[at],
+        customers: s[at + 1],
+        weeks: s[at + 2],
     }
 }
 
 // Row 3.
+#[tactic(auto, unfolding(crate::specs::Form::in_limits))]
 fn is_in_limits(f: Shape) -> bool
     ensures { result ≡ in_limits f }
 {
-    and(
-        inside(1, MOST_PRODUCTS, wide(f.products)),
-        and(
-            inside(1, MOST_CUSTOMERS, wide(f.customers)),
-            inside(1, MOST_WEEKS, wide(f.weeks)),
-        ),
-    )
+    (1..=MOST_PRODUCTS).contains(&u64::from(f.products))
+        && (1..=MOST_CUSTOMERS).contains(&u64::from(f.customers))
+        && (1..=MOST_WEEKS).contains(&u64::from(f.weeks))
 }
 
 // The lengths of the bodies of sections 1 to 12. A kind has the first of them, as many as it has sections.
 fn body_lengths(f: Shape) -> [u64; 12]
     ensures { result ≡ all_lengths f }
 {
-    let n = wide(f.products);
+    let n = u64::from(f.products);
     let nn = area(f.products, f.products) as u64;
     let cn = area(f.customers, f.products) as u64;
     let cnw = volume(f.customers, f.products, f.weeks) as u64;
@@ -202,6 +200,7 @@ fn body_lengths(f: Shape) -> [u64; 12]
 }
 
 // Row 4.
+#[tactic(auto, using(crate::proofs::PlantKinds::first_lengths, crate::proofs::PlantKinds::first_count, crate::proofs::PlantKinds::first_few))]
 fn has_lengths(s: &[u8], f: Shape) -> bool
     requires { contents_of f.kind ≤ length s.now }
     ensures { result ≡ sized s.now (plant_lengths f) }
@@ -211,325 +210,48 @@ fn has_lengths(s: &[u8], f: Shape) -> bool
     is_sized(s, &lengths[..k.sections])
 }
 
-// Row 5, the diagonals of sections 3 and 4.
-fn are_diagonals_in_range(s: &[u8], f: Shape) -> bool
-    requires { Laid s.now (plant_lengths f) }
-    ensures { result ≡ diagonals_in_range s.now f }
-{
-    let k = plant_kind(f.kind);
-    if k.diagonals {
-        return true;
-    }
-    let n = as_usize(f.products);
-    and(
-        diagonal_zero(s, CHANGEOVER_MINUTES, 2, n),
-        diagonal_zero(s, CHANGEOVER_CENTS, 4, n),
-    )
-}
-
-// Number j of section 12, or what a kind without that section reads as.
-fn opening_byte(s: &[u8], f: Shape, j: usize, absent: u64) -> u64
-    requires { Laid s.now (plant_lengths f) × (j < 2) }
-    ensures { result ≡ cond (has_mounted f.kind) (cell 1 s.now 11 j) absent }
-{
-    if has_mounted(f) {
-        return cell_in(s, MOUNTED, 1, j);
-    }
-    absent
-}
-
 // Whether a product is the plant's, or stands for none.
+#[tactic(auto, unfolding(crate::specs::Form::mounted_known))]
 fn is_mounted_known(product: u64, f: Shape) -> bool
     ensures { result ≡ mounted_known f.products product }
 {
-    if product < wide(f.products) {
-        return true;
-    }
-    product == NOTHING_MOUNTED
-}
-
-// Row 5, section 12.
-fn is_mounted_in_range(s: &[u8], f: Shape) -> bool
-    requires { Laid s.now (plant_lengths f) }
-    ensures { result ≡ mounted_in_range s.now f }
-{
-    let product = opening_byte(s, f, 0, NOTHING_MOUNTED);
-    let shut_before = opening_byte(s, f, 1, 0);
-    let is_known = shut_before <= 1;
-    if is_known {
-        return is_mounted_known(product, f);
-    }
-    false
-}
-
-// Row 5, sections 2 to 4 and 12.
-fn is_line_in_range(s: &[u8], f: Shape) -> bool
-    requires { Laid s.now (plant_lengths f) }
-    ensures { result ≡ line_in_range s.now f }
-{
-    let n = as_usize(f.products);
-    let nn = area(f.products, f.products);
-    and(
-        in_range(s, RATE, 4, 0, n, 1, MOST_RATE),
-        and(
-            in_range(s, CHANGEOVER_MINUTES, 2, 0, nn, 0, MOST_CHANGEOVER_MINUTES),
-            and(
-                in_range(s, CHANGEOVER_CENTS, 4, 0, nn, 0, MOST_CHANGEOVER_CENTS),
-                and(are_diagonals_in_range(s, f), is_mounted_in_range(s, f)),
-            ),
-        ),
-    )
-}
-
-// Row 5, sections 5 to 8.
-fn is_market_in_range(s: &[u8], f: Shape) -> bool
-    requires { Laid s.now (plant_lengths f) }
-    ensures { result ≡ market_in_range s.now f }
-{
-    let n = as_usize(f.products);
-    let cn = area(f.customers, f.products);
-    let cnw = volume(f.customers, f.products, f.weeks);
-    and(
-        in_range(s, DEMAND, 4, 0, cnw, 0, MOST_DEMAND),
-        and(
-            in_range(s, PRICE, 4, 0, cn, 0, MOST_UNIT_COST),
-            and(
-                in_range(s, BACKLOG_COST, 4, 0, cn, 0, MOST_UNIT_COST),
-                in_range(s, INVENTORY_COST, 4, 0, n, 0, MOST_UNIT_COST),
-            ),
-        ),
-    )
-}
-
-// Row 5, section 9.
-fn is_storage_in_range(s: &[u8], n: usize) -> bool
-    requires { Holds s.now 8 4 (2 * n) × (n < 256) }
-    ensures { result ≡ storage_in_range s.now n }
-{
-    let mut ok = true;
-    let mut i = 0;
-    while i < n {
-        let least = cell_in(s, STORAGE, 4, 2 * i);
-        let greatest = cell_in(s, STORAGE, 4, 2 * i + 1);
-        ok = and(ok, and(least <= greatest, greatest <= MOST_STORAGE));
-        i += 1;
-    }
-    ok
-}
-
-// Row 5, section 10.
-fn is_opening_in_range(s: &[u8], f: Shape) -> bool
-    requires { Laid s.now (plant_lengths f) }
-    ensures { result ≡ opening_in_range s.now f }
-{
-    let k = plant_kind(f.kind);
-    let n = as_usize(f.products);
-    let cn = area(f.customers, f.products);
-    and(
-        in_range(s, OPENING, 4, 0, n, 0, MOST_STORAGE),
-        in_range(s, OPENING, 4, n, cn, 0, k.backlog),
-    )
-}
-
-// Row 5, section 11.
-fn is_time_in_range(s: &[u8]) -> bool
-    requires { Holds s.now 10 2 2 }
-    ensures { result ≡ time_in_range s.now }
-{
-    let shortest = cell_in(s, TIME, 2, 0);
-    let week = cell_in(s, TIME, 2, 1);
-    and(inside(1, week, shortest), week <= MOST_WEEK_MINUTES)
-}
-
-// Row 5.
-fn is_in_range(s: &[u8], f: Shape) -> bool
-    requires { Laid s.now (plant_lengths f) }
-    ensures { result ≡ plant_in_range s.now f }
-{
-    and(
-        is_line_in_range(s, f),
-        and(
-            is_market_in_range(s, f),
-            and(
-                is_storage_in_range(s, as_usize(f.products)),
-                and(is_opening_in_range(s, f), is_time_in_range(s)),
-            ),
-        ),
-    )
+    product < u64::from(f.products) || product == NOTHING_MOUNTED
 }
 
 // Rows 1 to 5: the plant's shape, or the number of the first row that turns it down.
-pub fn plant_form(s: &[u8]) -> Form
+#[tactic(auto, unfolding(crate::specs::Form::plant_form))]
+pub fn plant_form(s: &[u8]) -> Result<Shape, Refusal>
     ensures { result ≡ plant_form s.now }
 {
     if !is_plant_headed(s) {
-        return Form::Refused(1);
+        return Err(Refusal::PlantContents);
     }
     if !is_laid_out(s) {
-        return Form::Refused(2);
+        return Err(Refusal::PlantPlaces);
     }
     let f = shape_of(s);
     if !is_in_limits(f) {
-        return Form::Refused(3);
+        return Err(Refusal::PlantLimits);
     }
     if !has_lengths(s, f) {
-        return Form::Refused(4);
+        return Err(Refusal::PlantLengths);
     }
-    if !is_in_range(s, f) {
-        return Form::Refused(5);
+    let file = LaidFile { bytes: s, shape: f };
+    if !file.is_in_range() {
+        return Err(Refusal::PlantRanges);
     }
-    Form::Good(f)
-}
-
-// ---- The numbers of a good plant file, section by section. A caller shows that the file is good and the indices are in reach.
-
-// Grams a minute of a product.
-pub fn rate(s: &[u8], f: Shape, product: usize) -> u64
-    requires { (plant_form s.now ≡ Good f) × (product < f.products) }
-    ensures { (result ≡ (plant_of f s.now).line.rate product) × (1 ≤ result) × (result ≤ most_rate) }
-{
-    cell_in(s, RATE, 4, product)
-}
-
-// Changeover minutes, by arc: the product before times the count of products, plus the product after.
-pub fn changeover_minutes(s: &[u8], f: Shape, arc: usize) -> u64
-    requires { (plant_form s.now ≡ Good f) × (arc < f.products * f.products) }
-    ensures { (result ≡ (plant_of f s.now).line.changeover_minutes (arc / f.products) (arc % f.products)) × (result ≤ most_changeover_minutes) }
-{
-    cell_in(s, CHANGEOVER_MINUTES, 2, arc)
-}
-
-// Changeover cents, by arc.
-pub fn changeover_cents(s: &[u8], f: Shape, arc: usize) -> u64
-    requires { (plant_form s.now ≡ Good f) × (arc < f.products * f.products) }
-    ensures { (result ≡ (plant_of f s.now).line.changeover_cents (arc / f.products) (arc % f.products)) × (result ≤ most_changeover_cents) }
-{
-    cell_in(s, CHANGEOVER_CENTS, 4, arc)
-}
-
-// The product that is mounted before the first week, or `NOTHING_MOUNTED`.
-pub fn mounted(s: &[u8], f: Shape) -> u64
-    requires { plant_form s.now ≡ Good f }
-    ensures { (result ≡ (plant_of f s.now).line.mounted) × ((result < f.products) ⊎ (result ≡ nothing_mounted)) }
-{
-    opening_byte(s, f, 0, NOTHING_MOUNTED)
-}
-
-// 1 if the week before the first was shut, else 0.
-pub fn shut_before(s: &[u8], f: Shape) -> u64
-    requires { plant_form s.now ≡ Good f }
-    ensures { (result ≡ (plant_of f s.now).line.shut_before) × (result ≤ 1) }
-{
-    opening_byte(s, f, 1, 0)
-}
-
-// Cents a kilogram and week that inventory costs.
-pub fn inventory_cost(s: &[u8], f: Shape, product: usize) -> u64
-    requires { (plant_form s.now ≡ Good f) × (product < f.products) }
-    ensures { (result ≡ (plant_of f s.now).inventory_cost product) × (result ≤ most_unit_cost) }
-{
-    cell_in(s, INVENTORY_COST, 4, product)
-}
-
-// Grams in stock before the first week.
-pub fn opening_inventory(s: &[u8], f: Shape, product: usize) -> u64
-    requires { (plant_form s.now ≡ Good f) × (product < f.products) }
-    ensures { (result ≡ (plant_of f s.now).opening_inventory product) × (result ≤ most_storage) }
-{
-    cell_in(s, OPENING, 4, product)
-}
-
-// The least grams of a product that may stand in storage after a week.
-pub fn least_storage(s: &[u8], f: Shape, product: usize) -> u64
-    requires { (plant_form s.now ≡ Good f) × (product < f.products) }
-    ensures { (result ≡ (plant_of f s.now).least_storage product) × (result ≤ most_storage) }
-{
-    cell_in(s, STORAGE, 4, 2 * product)
-}
-
-// The greatest.
-pub fn greatest_storage(s: &[u8], f: Shape, product: usize) -> u64
-    requires { (plant_form s.now ≡ Good f) × (product < f.products) }
-    ensures { (result ≡ (plant_of f s.now).greatest_storage product) × (result ≤ most_storage) }
-{
-    cell_in(s, STORAGE, 4, 2 * product + 1)
-}
-
-// Minutes of the shortest run.
-pub fn shortest_run(s: &[u8], f: Shape) -> u64
-    requires { plant_form s.now ≡ Good f }
-    ensures { (result ≡ (plant_of f s.now).shortest_run) × (1 ≤ result) × (result ≤ most_week_minutes) }
-{
-    cell_in(s, TIME, 2, 0)
-}
-
-// Minutes per week.
-pub fn week_minutes(s: &[u8], f: Shape) -> u64
-    requires { plant_form s.now ≡ Good f }
-    ensures { (result ≡ (plant_of f s.now).week_minutes) × (result ≤ most_week_minutes) }
-{
-    cell_in(s, TIME, 2, 1)
-}
-
-// ---- The tables by customer and product, by pair: customer times the count of products, plus product.
-
-// Where a pair's demand stands, week by week.
-pub fn demand_row(s: &[u8], f: Shape, pair: usize) -> PairRow
-    requires { (plant_form s.now ≡ Good f) × (pair < f.customers * f.products) }
-    ensures { DemandRow f s.now result × (result.pair ≡ pair) }
-{
-    pair_row(s, f, DEMAND, pair)
-}
-
-// Grams that its customer wants of its product in a week.
-pub fn week_demand(s: &[u8], f: Shape, row: PairRow, week: usize) -> u64
-    requires { DemandRow f s.now row × (week < f.weeks) }
-    ensures { (result ≡ (plant_of f s.now).demand (row.pair / f.products) (row.pair % f.products) week) × (result ≤ most_demand) }
-{
-    pair_number(s, f, row, week)
-}
-
-// The same of a pair.
-pub fn pair_demand(s: &[u8], f: Shape, pair: usize, week: usize) -> u64
-    requires { (plant_form s.now ≡ Good f) × (pair < f.customers * f.products) × (week < f.weeks) }
-    ensures { (result ≡ (plant_of f s.now).demand (pair / f.products) (pair % f.products) week) × (result ≤ most_demand) }
-{
-    let row = demand_row(s, f, pair);
-    week_demand(s, f, row, week)
-}
-
-// Cents a kilogram that a pair's customer pays for its product.
-pub fn pair_price(s: &[u8], f: Shape, pair: usize) -> u64
-    requires { (plant_form s.now ≡ Good f) × (pair < f.customers * f.products) }
-    ensures { (result ≡ (plant_of f s.now).price (pair / f.products) (pair % f.products)) × (result ≤ most_unit_cost) }
-{
-    cell_in(s, PRICE, 4, pair)
-}
-
-// Cents a kilogram and week that a pair's backlog costs.
-pub fn pair_backlog_cost(s: &[u8], f: Shape, pair: usize) -> u64
-    requires { (plant_form s.now ≡ Good f) × (pair < f.customers * f.products) }
-    ensures { (result ≡ (plant_of f s.now).backlog_cost (pair / f.products) (pair % f.products)) × (result ≤ most_unit_cost) }
-{
-    cell_in(s, BACKLOG_COST, 4, pair)
-}
-
-// Grams of a pair's product that its customer is owed before the first week.
-pub fn pair_opening_backlog(s: &[u8], f: Shape, pair: usize) -> u64
-    requires { (plant_form s.now ≡ Good f) × (pair < f.customers * f.products) }
-    ensures { (result ≡ (plant_of f s.now).opening_backlog (pair / f.products) (pair % f.products)) × (result ≤ most_opening_backlog) }
-{
-    cell_in(s, OPENING, 4, as_usize(f.products) + pair)
+    Ok(f)
 }
 
 // ---- A list of rates beside a plant file: a number of 4 bytes for each product.
 
 // Rate i of a list.
+#[tactic(auto, unfolding(crate::specs::Rates::listed_rate))]
 pub fn listed_rate(rates: &[u8], i: usize) -> u64
     requires { 4 * i + 4 ≤ length rates.now }
     ensures { result ≡ listed_rate rates.now i }
 {
-    read4(rates, 4 * i)
+    read(rates, 4 * i, 4)
 }
 
 // Whether the first n rates of a list are within their range.
@@ -537,52 +259,43 @@ fn are_rates_in_range(rates: &[u8], n: usize) -> bool
     requires { 4 * n ≤ length rates.now }
     ensures { result ≡ all_below n (λ i. within 1 most_rate (listed_rate rates.now i)) }
 {
-    let mut ok = true;
-    let mut i = 0;
-    while i < n {
-        ok = and(ok, inside(1, MOST_RATE, listed_rate(rates, i)));
-        i += 1;
-    }
-    ok
+    (0..n).all(|i| (1..=MOST_RATE).contains(&listed_rate(rates, i)))
 }
 
 // A list of N rates, or the number of its refusal.
-pub fn rates_form(rates: &[u8], f: Shape) -> Form
+#[tactic(auto, unfolding(crate::specs::Rates::rates_form))]
+pub fn rates_form(rates: &[u8], f: Shape) -> Result<Shape, Refusal>
     ensures { result ≡ rates_form f rates.now }
 {
-    let n = as_usize(f.products);
+    let n = usize::from(f.products);
     if rates.len() != 4 * n {
-        return Form::Refused(4);
+        return Err(Refusal::PlantLengths);
     }
     if !are_rates_in_range(rates, n) {
-        return Form::Refused(5);
+        return Err(Refusal::PlantRanges);
     }
-    Form::Good(f)
+    Ok(f)
 }
 
 // ---- The writing of a plant file: its contents, then each body at the start of its own stretch.
 
 // How many sections a kind has.
+#[tactic(auto, using(crate::proofs::PlantKinds::kind_sections))]
 pub fn section_count(f: Shape) -> usize
     ensures { (result ≡ (plant_kind f.kind).sections) × (result ≤ 12) }
 {
-    let k = plant_kind(f.kind);
-    k.sections
+    plant_kind(f.kind).sections
 }
 
 // Where the body in a place begins; past the last, where the file ends.
+#[tactic(auto, using(crate::proofs::PlantKinds::first_lengths, crate::proofs::PlantKinds::first_count, crate::proofs::PlantKinds::first_few))]
 pub fn section_start(f: Shape, place: usize) -> usize
     requires { place ≤ (plant_kind f.kind).sections }
     ensures { (result ≡ start (plant_lengths f) place) × (result < 2 ^ 32) }
 {
+    let k = plant_kind(f.kind);
     let lengths = body_lengths(f);
-    let mut at = 2 + 9 * section_count(f);
-    let mut i = 0;
-    while i < place {
-        at += lengths[i] as usize;
-        i += 1;
-    }
-    at
+    contents::section_start(&lengths[..k.sections], place)
 }
 
 // The length of a plant file.
@@ -593,6 +306,7 @@ pub fn plant_length(f: Shape) -> usize
 }
 
 // Stores the contents of a plant file.
+#[tactic(auto, using(crate::proofs::PlantKinds::first_lengths, crate::proofs::PlantKinds::first_count, crate::proofs::PlantKinds::first_few))]
 pub fn write_contents(out: &mut [u8], f: Shape)
     requires { contents_of f.kind ≤ length out.old }
     ensures { out.new ≡ store out.old 0 (contents_bytes (plant_kind f.kind).number 1 (plant_lengths f)) }
@@ -607,9 +321,9 @@ pub fn write_shape(out: &mut [u8], f: Shape)
     requires { 3 ≤ length out.old }
     ensures { out.new ≡ store out.old 0 (digits 1 f.products ++ (digits 1 f.customers ++ digits 1 f.weeks)) }
 {
-    write(out, 0, 1, wide(f.products));
-    write(out, 1, 1, wide(f.customers));
-    write(out, 2, 1, wide(f.weeks));
+    write(out, 0, 1, u64::from(f.products));
+    write(out, 1, 1, u64::from(f.customers));
+    write(out, 2, 1, u64::from(f.weeks));
 }
 
 // Stores section 2, of a list's first n rates.
@@ -617,10 +331,8 @@ pub fn write_rates(out: &mut [u8], rates: &[u8], n: usize)
     requires { (4 * n ≤ length rates.now) × (4 * n ≤ length out.old) }
     ensures { out.new ≡ store out.old 0 (encode 4 n (listed_rate rates.now)) }
 {
-    let mut i = 0;
-    while i < n {
+    for i in 0..n {
         write(out, 4 * i, 4, listed_rate(rates, i));
-        i += 1;
     }
 }
 
@@ -633,11 +345,133 @@ pub fn write_mounted(out: &mut [u8], product: u64, shut: u64)
     write(out, 1, 1, shut);
 }
 
-// Stores the body in a place as a plant file has it.
+// Stores the body in a place as a plant file has it. It takes the bytes by themselves: that each is below 256 is known of a parameter,
+// and not of a field.
 pub fn copy_body(out: &mut [u8], s: &[u8], f: Shape, place: usize)
-    requires { (plant_form s.now ≡ Good f) × (place < (plant_kind f.kind).sections) × (get_or (plant_lengths f) place 0 ≤ length out.old) }
+    requires { (plant_form s.now ≡ Ok f) × (place < (plant_kind f.kind).sections) × (get_or (plant_lengths f) place 0 ≤ length out.old) }
     ensures { out.new ≡ store out.old 0 (get_or (plant_bodies (plant_of f s.now)) place []) }
 {
     let e = entry_in(s, place);
     copy_section(out, s, place, 1, e.length as usize);
+}
+
+// ---- the same of bytes and a shape
+
+pub fn rate(s: &[u8], f: Shape, product: usize) -> u64
+    requires { (plant_form s.now ≡ Ok f) × (product < f.products) }
+    ensures { (result ≡ (plant_of f s.now).line.rate product) × (1 ≤ result) × (result ≤ most_rate) }
+{
+    PlantFile { bytes: s, shape: f }.rate(product)
+}
+
+pub fn changeover_minutes(s: &[u8], f: Shape, arc: usize) -> u64
+    requires { (plant_form s.now ≡ Ok f) × (arc < f.products * f.products) }
+    ensures { (result ≡ (plant_of f s.now).line.changeover_minutes (arc / f.products) (arc % f.products)) × (result ≤ most_changeover_minutes) }
+{
+    PlantFile { bytes: s, shape: f }.changeover_minutes(arc)
+}
+
+pub fn changeover_cents(s: &[u8], f: Shape, arc: usize) -> u64
+    requires { (plant_form s.now ≡ Ok f) × (arc < f.products * f.products) }
+    ensures { (result ≡ (plant_of f s.now).line.changeover_cents (arc / f.products) (arc % f.products)) × (result ≤ most_changeover_cents) }
+{
+    PlantFile { bytes: s, shape: f }.changeover_cents(arc)
+}
+
+pub fn mounted(s: &[u8], f: Shape) -> u64
+    requires { plant_form s.now ≡ Ok f }
+    ensures { (result ≡ (plant_of f s.now).line.mounted) × ((result < f.products) ⊎ (result ≡ nothing_mounted)) }
+{
+    PlantFile { bytes: s, shape: f }.mounted()
+}
+
+pub fn shut_before(s: &[u8], f: Shape) -> u64
+    requires { plant_form s.now ≡ Ok f }
+    ensures { (result ≡ (plant_of f s.now).line.shut_before) × (result ≤ 1) }
+{
+    PlantFile { bytes: s, shape: f }.shut_before()
+}
+
+pub fn inventory_cost(s: &[u8], f: Shape, product: usize) -> u64
+    requires { (plant_form s.now ≡ Ok f) × (product < f.products) }
+    ensures { (result ≡ (plant_of f s.now).inventory_cost product) × (result ≤ most_unit_cost) }
+{
+    PlantFile { bytes: s, shape: f }.inventory_cost(product)
+}
+
+pub fn opening_inventory(s: &[u8], f: Shape, product: usize) -> u64
+    requires { (plant_form s.now ≡ Ok f) × (product < f.products) }
+    ensures { (result ≡ (plant_of f s.now).opening_inventory product) × (result ≤ most_storage) }
+{
+    PlantFile { bytes: s, shape: f }.opening_inventory(product)
+}
+
+pub fn least_storage(s: &[u8], f: Shape, product: usize) -> u64
+    requires { (plant_form s.now ≡ Ok f) × (product < f.products) }
+    ensures { (result ≡ (plant_of f s.now).least_storage product) × (result ≤ most_storage) }
+{
+    PlantFile { bytes: s, shape: f }.least_storage(product)
+}
+
+pub fn greatest_storage(s: &[u8], f: Shape, product: usize) -> u64
+    requires { (plant_form s.now ≡ Ok f) × (product < f.products) }
+    ensures { (result ≡ (plant_of f s.now).greatest_storage product) × (result ≤ most_storage) }
+{
+    PlantFile { bytes: s, shape: f }.greatest_storage(product)
+}
+
+pub fn shortest_run(s: &[u8], f: Shape) -> u64
+    requires { plant_form s.now ≡ Ok f }
+    ensures { (result ≡ (plant_of f s.now).shortest_run) × (1 ≤ result) × (result ≤ most_week_minutes) }
+{
+    PlantFile { bytes: s, shape: f }.shortest_run()
+}
+
+pub fn week_minutes(s: &[u8], f: Shape) -> u64
+    requires { plant_form s.now ≡ Ok f }
+    ensures { (result ≡ (plant_of f s.now).week_minutes) × (result ≤ most_week_minutes) }
+{
+    PlantFile { bytes: s, shape: f }.week_minutes()
+}
+
+pub fn demand_row(s: &[u8], f: Shape, pair: usize) -> PairRow
+    requires { (plant_form s.now ≡ Ok f) × (pair < f.customers * f.products) }
+    ensures { DemandRow f s.now result × (result.pair ≡ pair) }
+{
+    PlantFile { bytes: s, shape: f }.demand_row(pair)
+}
+
+pub fn week_demand(s: &[u8], f: Shape, row: PairRow, week: usize) -> u64
+    requires { DemandRow f s.now row × (week < f.weeks) }
+    ensures { (result ≡ (plant_of f s.now).demand (row.pair / f.products) (row.pair % f.products) week) × (result ≤ most_demand) }
+{
+    PlantFile { bytes: s, shape: f }.week_demand(row, week)
+}
+
+pub fn pair_demand(s: &[u8], f: Shape, pair: usize, week: usize) -> u64
+    requires { (plant_form s.now ≡ Ok f) × (pair < f.customers * f.products) × (week < f.weeks) }
+    ensures { (result ≡ (plant_of f s.now).demand (pair / f.products) (pair % f.products) week) × (result ≤ most_demand) }
+{
+    PlantFile { bytes: s, shape: f }.pair_demand(pair, week)
+}
+
+pub fn pair_price(s: &[u8], f: Shape, pair: usize) -> u64
+    requires { (plant_form s.now ≡ Ok f) × (pair < f.customers * f.products) }
+    ensures { (result ≡ (plant_of f s.now).price (pair / f.products) (pair % f.products)) × (result ≤ most_unit_cost) }
+{
+    PlantFile { bytes: s, shape: f }.pair_price(pair)
+}
+
+pub fn pair_backlog_cost(s: &[u8], f: Shape, pair: usize) -> u64
+    requires { (plant_form s.now ≡ Ok f) × (pair < f.customers * f.products) }
+    ensures { (result ≡ (plant_of f s.now).backlog_cost (pair / f.products) (pair % f.products)) × (result ≤ most_unit_cost) }
+{
+    PlantFile { bytes: s, shape: f }.pair_backlog_cost(pair)
+}
+
+pub fn pair_opening_backlog(s: &[u8], f: Shape, pair: usize) -> u64
+    requires { (plant_form s.now ≡ Ok f) × (pair < f.customers * f.products) }
+    ensures { (result ≡ (plant_of f s.now).opening_backlog (pair / f.products) (pair % f.products)) × (result ≤ most_opening_backlog) }
+{
+    PlantFile { bytes: s, shape: f }.pair_opening_backlog(pair)
 }

@@ -15,8 +15,8 @@ use Rattle.plant_file.specs.Plant.{Plant, plant_of}
 use Rattle.plant_file.specs.Ranges.{PlantRanges}
 use Rattle.slot_file.specs.Slots.{Slot, order_of_slots, WeekFormed, Slots}
 use Rattle.slot_file.proofs.Orders.{order_below}
-use Rattle.costs.specs.declared.Mounted.{Mounted}
-use Rattle.costs.specs.declared.Mounted.TheVariants.{Product}
+use Rattle.std.specs.Prelude.{Some}
+use Rattle.costs.specs.Mounted.{Mounted}
 use Rattle.units.specs.declared.Profit.{Profit}
 use Rattle.machine.specs.State.{with_line, with_week}
 use Rattle.costs.specs.Changeover.{changeover_to}
@@ -43,7 +43,7 @@ lines_most P w h m t [] b c = omega arith
 lines_most P w h m t (x ∷ xs) b c =
     let change = changeover_to P.line.changeover_minutes m x.product in
     let end = t + change + x.minutes in
-    let rest = slot_lines P w (Product x.product) end xs in
+    let rest = slot_lines P w (Some x.product) end xs in
     omega (
       arith,
       length-append (line (w + 1) (x.product ∷ change ∷ (t + change) ∷ end ∷ [])) rest,
@@ -53,7 +53,7 @@ lines_most P w h m t (x ∷ xs) b c =
       decimal_length 4 change (omega arith),
       decimal_length 4 (t + change) (omega arith),
       decimal_length 4 end (omega arith),
-      lines_most P w h (Product x.product) end xs (λ k l. b (suc k) (omega arith)) (omega arith),
+      lines_most P w h (Some x.product) end xs (λ k l. b (suc k) (omega arith)) (omega arith),
     )
 
 week_lines_most : (P : Plant) → PlantRanges P → (S : Slots) (w : ℕ) → w < P.weeks → WeekFormed P.products (S.line.week w) → WeekContinues P S w

@@ -10,13 +10,12 @@ use Rattle.mathematics.specs.Order.{order_of}
 use Rattle.mathematics.proofs.Below.{sum_prefix}
 use Rattle.mathematics.proofs.Join.{join_length}
 use Rattle.sections.specs.declared.Shape.{Shape}
-use Rattle.sections.specs.declared.Form.TheVariants.{Good}
+use Rattle.std.specs.Prelude.{Ok, Some}
+use Rattle.costs.specs.Mounted.{Mounted}
 use Rattle.plant_file.specs.Plant.{plant_of}
 use Rattle.plant_file.specs.Form.{plant_form}
 use Rattle.plant_file.proofs.PlantInRange.{plant_ranges}
 use Rattle.plan_file.specs.Plan.{plan_of}
-use Rattle.costs.specs.declared.Mounted.{Mounted}
-use Rattle.costs.specs.declared.Mounted.TheVariants.{Product}
 use Rattle.costs.specs.Changeover.{changeover_to}
 use Rattle.model.specs.Match.{slots_for, line_shown, slots_shown}
 use Rattle.passed_plan.specs.Shown.{week_count, week_product, week_mounted, week_slots}
@@ -24,7 +23,7 @@ use Rattle.report.specs.Text.{line}
 use Rattle.report.specs.Report.{slot_lines}
 use Rattle.report.specs.Weeks.{week_text}
 
-pub few : (s : List ℕ) (f : Shape) → plant_form s ≡ Good f → (f.products ≤ 16) × (f.weeks ≤ 26)
+pub few : (s : List ℕ) (f : Shape) → plant_form s ≡ Ok f → (f.products ≤ 16) × (f.weeks ≤ 26)
 few s f good = let r = plant_ranges s f good in (r.products_most, r.weeks_most)
 
 slots_drop : (minutes : ℕ → ℕ) (n : ℕ) (product : ℕ → ℕ) (k : ℕ) → k < n
@@ -57,7 +56,7 @@ module _ (f : Shape) (plant plan : List ℕ) (w : ℕ) where
       → minutes ≡ (plan_of f plan).line.minutes w product → change ≡ changeover_to (plant_of f plant).line.changeover_minutes m product
       → lines_from f plant plan w m t k
       ≡ line (w + 1) (product ∷ change ∷ (t + change) ∷ (t + change + minutes) ∷ [])
-      ++ lines_from f plant plan w (Product product) (t + change + minutes) (k + 1)
+      ++ lines_from f plant plan w (Some product) (t + change + minutes) (k + 1)
   lines_next m t k product minutes change l p n c = rw (c, n, p, add-one k) (ap (slot_lines (plant_of f plant) w m t) (week_drop k l))
 
   pub lines_end : (m : Mounted) (t : ℕ) → lines_from f plant plan w m t (week_count f plan w) ≡ []

@@ -1,7 +1,7 @@
 -- The lines of a plan's weeks, by its file. Assumes nothing.
 use Rattle.std.specs.Prelude.{ℕ, ◌≡◌, List}
 use Rattle.sections.specs.declared.Shape.{Shape}
-use Rattle.sections.specs.declared.Form.TheVariants.{Good}
+use Rattle.std.specs.Prelude.{Ok}
 use Rattle.plant_file.specs.Plant.{plant_of}
 use Rattle.plant_file.specs.Form.{plant_form}
 use Rattle.passed_plan.specs.Shown.{week_mounted, week_slots, Ordered}
@@ -13,5 +13,5 @@ week_text f plant plan w = slot_lines (plant_of f plant) w (week_mounted f plant
 
 -- a good plant, and a plan with an order of its products in each week
 pub record Ready (f : Shape) (plant plan : List ℕ) : Type 0 where
-  pub plant_good : plant_form plant ≡ Good f
+  pub plant_good : plant_form plant ≡ Ok f
   pub ordered : Ordered f plan

@@ -9,11 +9,12 @@ ghost use Rattle.report.specs.Stored.{Stored};
 ghost use Rattle.report.specs.Report.{first_line, report_text};
 ghost use Rattle.report.specs.Weeks.{week_text, Ready};
 
-use calls::Check;
-use costs::{Mounted, changeover_to};
+use costs::changeover_to;
 use numbers::as_usize;
-use passed_plan::{Judgement, judge_files, mounted_product, product_at, week_count};
-use sections::Shape;
+use passed_plan::{judge_files, mounted_product, product_at, week_count};
+use plant_file::PlantFile;
+use sections::{Refusal, Shape};
+use units::Profit;
 
 fn write_byte(out: &mut [u8], at: usize, byte: u8) -> usize
     requires { at < length out.old }
@@ -129,12 +130,19 @@ fn write_week(out: &mut [u8], at: usize, plant: &[u8], plan: &[u8], f: Shape, we
     while k < n {
         let product = product_at(plan, f, week, k);
         let minutes = plan_file::minutes(plan, f, week, product);
-        let over = changeover_to(plant, f, mounted, product);
+        let over = changeover_to(
+            PlantFile {
+                bytes: plant,
+                shape: f,
+            },
+            mounted,
+            product,
+        );
         let change = over.minutes.0;
         let start = clock + change;
         let end = start + minutes;
         p = write_line(out, p, week as u64 + 1, product as u64, change, start, end);
-        mounted = Mounted::Product(product as u8);
+        mounted = Some(product as u8);
         clock = end;
         k += 1;
     }
@@ -156,19 +164,19 @@ fn write_weeks(out: &mut [u8], at: usize, plant: &[u8], plan: &[u8], f: Shape) -
 }
 
 // The first line: the profit, or the number of the refusal.
-fn write_first(out: &mut [u8], check: Check) -> usize
+fn write_first(out: &mut [u8], check: Result<Profit, Refusal>) -> usize
     requires { 29 ≤ length out.old }
     ensures { Stored out.old 0 (first_line check) result out.new }
 {
     match check {
-        Check::Passed(profit) => {
+        Ok(profit) => {
             let p = write_bytes(out, 0, b"passed ");
             let q = write_signed(out, p, profit.0);
             write_byte(out, q, 10)
         }
-        Check::Refused(n) => {
+        Err(refusal) => {
             let p = write_bytes(out, 0, b"refused ");
-            write_field(out, p, n as u64, 10)
+            write_field(out, p, u64::from(refusal.number()), 10)
         }
     }
 }
@@ -179,12 +187,10 @@ pub fn report_text(plant: &[u8], plan: &[u8], out: &mut [u8; 16384]) -> usize
         × (out.new ≡ store out.old 0 (report_text plant.now plan.now)) }
 {
     match judge_files(plant, plan) {
-        Judgement::Refused(n) => write_first(out, Check::Refused(n)),
-        Judgement::Passed(p) => {
-            let f = p.shape;
-            let profit = p.profit;
-            let at = write_first(out, Check::Passed(profit));
-            write_weeks(out, at, plant, plan, f)
+        Err(refusal) => write_first(out, Err(refusal)),
+        Ok(passed) => {
+            let at = write_first(out, Ok(passed.profit));
+            write_weeks(out, at, plant, plan, passed.shape)
         }
     }
 }

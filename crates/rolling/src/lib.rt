@@ -6,30 +6,27 @@ ghost use Rattle.mathematics.specs.Week.{shut};
 ghost use Rattle.numbers.specs.Number.{encode, store};
 ghost use Rattle.contents.specs.File.{start};
 ghost use Rattle.sections.specs.Section.{grid, cube};
-ghost use Rattle.sections.specs.declared.Form.TheVariants.{Good};
 ghost use Rattle.plant_file.specs.Plant.{plant_of};
 ghost use Rattle.plant_file.specs.Form.{plant_lengths, plant_form};
 ghost use Rattle.plant_file.specs.File.{plant_bodies, plant_file};
 ghost use Rattle.plan_file.specs.Plan.{plan_of};
 ghost use Rattle.plan_file.specs.Form.{plan_form};
 ghost use Rattle.rules.specs.Rules.{week_of};
-ghost use Rattle.rules.specs.Products.{Judged};
+ghost use Rattle.passed_plan.specs.Judged.{Judged};
 ghost use Rattle.model.specs.Rolled.{weeks_left, backlog_carried, rolled_shape};
-ghost use Rattle.calls.specs.declared.Written.TheVariants.{Length};
 ghost use Rattle.calls.specs.Answer.{bytes, rolled_in, roll_passed, roll_answer, written_in, output_after};
 ghost use Rattle.rolling.specs.Rollable.{Rollable};
 
-use calls::{Written, refuse};
 use costs::mounted_number;
 use numbers::{as_usize, wide, write};
-use passed_plan::{Judgement, judge_files, mounted_product};
+use passed_plan::{judge_files, mounted_product};
 use plan_file::{inventory, pair_backlog};
 use plant_file::{
     copy_body, demand_row, plant_length, rates_form, section_count, section_start, week_demand,
     write_mounted, write_rates, write_shape,
 };
 use rules::is_shut;
-use sections::{Form, Shape, area};
+use sections::{Refusal, Shape, area};
 
 // Whether k is from 1 to one less than the weeks.
 fn has_weeks_left(f: Shape, k: u64) -> bool
@@ -76,7 +73,7 @@ fn rolled_shape(f: Shape, k: usize) -> Shape
 
 // Stores a pair's demand of the weeks from k on.
 fn write_demand_row(out: &mut [u8], plant: &[u8], f: Shape, k: usize, pair: usize)
-    requires { (plant_form plant.now ≡ Good f) × (k ≤ f.weeks) × (pair < f.customers * f.products) × (4 * (f.weeks - k) ≤ length out.old) }
+    requires { (plant_form plant.now ≡ Ok f) × (k ≤ f.weeks) × (pair < f.customers * f.products) × (4 * (f.weeks - k) ≤ length out.old) }
     ensures { out.new ≡ store out.old 0
         (encode 4 (f.weeks - k) (λ w. (plant_of f plant.now).demand (pair / f.products) (pair % f.products) (k + w))) }
 {
@@ -91,7 +88,7 @@ fn write_demand_row(out: &mut [u8], plant: &[u8], f: Shape, k: usize, pair: usiz
 
 // Stores section 5, pair by pair.
 fn write_demand(out: &mut [u8], plant: &[u8], f: Shape, k: usize)
-    requires { (plant_form plant.now ≡ Good f) × (k ≤ f.weeks) × (4 * (f.customers * f.products * (f.weeks - k)) ≤ length out.old) }
+    requires { (plant_form plant.now ≡ Ok f) × (k ≤ f.weeks) × (4 * (f.customers * f.products * (f.weeks - k)) ≤ length out.old) }
     ensures { out.new ≡ store out.old 0
         (cube 4 f.customers f.products (f.weeks - k) (λ c i w. (plant_of f plant.now).demand c i (k + w))) }
 {
@@ -108,7 +105,7 @@ fn write_demand(out: &mut [u8], plant: &[u8], f: Shape, k: usize)
 
 // Stores the inventory after the first k weeks.
 fn write_inventory(out: &mut [u8], plan: &[u8], f: Shape, k: usize)
-    requires { (plan_form f plan.now ≡ Good f) × (1 ≤ k) × (k < f.weeks) × (4 * f.products ≤ length out.old) }
+    requires { (plan_form f plan.now ≡ Ok f) × (1 ≤ k) × (k < f.weeks) × (4 * f.products ≤ length out.old) }
     ensures { out.new ≡ store out.old 0 (encode 4 f.products ((plan_of f plan.now).inventory (k - 1))) }
 {
     let products = as_usize(f.products);
@@ -121,7 +118,7 @@ fn write_inventory(out: &mut [u8], plan: &[u8], f: Shape, k: usize)
 
 // Stores the backlog after the first k weeks.
 fn write_backlog(out: &mut [u8], plan: &[u8], f: Shape, k: usize)
-    requires { (plan_form f plan.now ≡ Good f) × (1 ≤ k) × (k < f.weeks) × (4 * (f.customers * f.products) ≤ length out.old) }
+    requires { (plan_form f plan.now ≡ Ok f) × (1 ≤ k) × (k < f.weeks) × (4 * (f.customers * f.products) ≤ length out.old) }
     ensures { out.new ≡ store out.old 0
         (grid 4 f.customers f.products (λ c i. (plan_of f plan.now).backlog c i (k - 1))) }
 {
@@ -135,7 +132,7 @@ fn write_backlog(out: &mut [u8], plan: &[u8], f: Shape, k: usize)
 
 // Stores section 10: inventory, then backlog.
 fn write_opening(out: &mut [u8], plan: &[u8], f: Shape, k: usize)
-    requires { (plan_form f plan.now ≡ Good f) × (1 ≤ k) × (k < f.weeks) × (4 * ((1 + f.customers) * f.products) ≤ length out.old) }
+    requires { (plan_form f plan.now ≡ Ok f) × (1 ≤ k) × (k < f.weeks) × (4 * ((1 + f.customers) * f.products) ≤ length out.old) }
     ensures { out.new ≡ store out.old 0
         (encode 4 f.products ((plan_of f plan.now).inventory (k - 1))
         ++ grid 4 f.customers f.products (λ c i. (plan_of f plan.now).backlog c i (k - 1))) }
@@ -147,7 +144,7 @@ fn write_opening(out: &mut [u8], plan: &[u8], f: Shape, k: usize)
 
 // 1 if a week is shut, else 0.
 fn shut_mark(plan: &[u8], f: Shape, week: usize) -> u64
-    requires { (plan_form f plan.now ≡ Good f) × (week < f.weeks) }
+    requires { (plan_form f plan.now ≡ Ok f) × (week < f.weeks) }
     ensures { result ≡ cond (shut f.products (week_of (plan_of f plan.now).line week)) 1 0 }
 {
     if is_shut(plan, f, week) { 1 } else { 0 }
@@ -212,13 +209,13 @@ fn write_plant(
     k: usize,
     rates: &[u8],
     size: usize,
-) -> Written
+) -> Result<usize, Refusal>
     requires { Rollable f plant.now plan.now k rates.now × (start (plant_lengths (rolled_shape f k)) 12 ≤ length out.old) }
-    ensures { (result ≡ Length size) × (out.new ≡ store out.old 0
+    ensures { (result ≡ Ok size) × (out.new ≡ store out.old 0
         (plant_file (rolled_in f plant.now plan.now k rates.now))) }
 {
     write_file(out, plant, plan, f, k, rates);
-    Written::Length(size)
+    Ok(size)
 }
 
 // Rolls on where the output has room for the file.
@@ -229,7 +226,7 @@ fn roll_rates(
     f: Shape,
     k: usize,
     rates: &[u8],
-) -> Written
+) -> Result<usize, Refusal>
     requires { Rollable f plant.now plan.now k rates.now }
     ensures result { result ≡ written_in (bytes (plant_file (rolled_in f plant.now plan.now k rates.now))) out.old }
     ensures output { out.new
@@ -237,45 +234,49 @@ fn roll_rates(
 {
     let size = plant_length(rolled_shape(f, k));
     if out.len() < size {
-        return refuse(out, 51);
+        return Err(Refusal::OutputLength);
     }
     write_plant(out, plant, plan, f, k, rates, size)
 }
 
 // What follows the plan's checks: k, the rates, the backlog, and the room.
-fn roll_passed(out: &mut [u8], plant: &[u8], plan: &[u8], f: Shape, k: u64, rates: &[u8]) -> Written
-    requires { (plant_form plant.now ≡ Good f) × (plan_form f plan.now ≡ Good f) }
+fn roll_passed(
+    out: &mut [u8],
+    plant: &[u8],
+    plan: &[u8],
+    f: Shape,
+    k: u64,
+    rates: &[u8],
+) -> Result<usize, Refusal>
+    requires { (plant_form plant.now ≡ Ok f) × (plan_form f plan.now ≡ Ok f) }
     ensures result { result ≡ written_in (roll_passed f plant.now plan.now k rates.now) out.old }
     ensures output { out.new
         ≡ output_after (roll_passed f plant.now plan.now k rates.now) out.old }
 {
     if !has_weeks_left(f, k) {
-        return refuse(out, 61);
+        return Err(Refusal::WeeksLeft);
     }
-    match rates_form(rates, f) {
-        Form::Refused(n) => refuse(out, n),
-        Form::Good(_) => {
-            let weeks = k as usize;
-            if !is_backlog_carried(plant, plan, f, weeks) {
-                return refuse(out, 62);
-            }
-            roll_rates(out, plant, plan, f, weeks, rates)
-        }
+    rates_form(rates, f)?;
+    let weeks = k as usize;
+    if !is_backlog_carried(plant, plan, f, weeks) {
+        return Err(Refusal::OpeningBacklog);
     }
+    roll_rates(out, plant, plan, f, weeks, rates)
 }
 
 // The plant file of the weeks after the first k, with the rates of a list, at the start of the output: its length, or the number of the first
 // refusal.
-pub fn roll(plant: &[u8], plan: &[u8], k: u64, rates: &[u8], out: &mut [u8]) -> Written
+pub fn roll(
+    plant: &[u8],
+    plan: &[u8],
+    k: u64,
+    rates: &[u8],
+    out: &mut [u8],
+) -> Result<usize, Refusal>
     ensures result { result ≡ written_in (roll_answer plant.now plan.now k rates.now) out.old }
     ensures output { out.new
         ≡ output_after (roll_answer plant.now plan.now k rates.now) out.old }
 {
-    match judge_files(plant, plan) {
-        Judgement::Refused(n) => refuse(out, n),
-        Judgement::Passed(p) => {
-            let f = p.shape;
-            roll_passed(out, plant, plan, f, k, rates)
-        }
-    }
+    let passed = judge_files(plant, plan)?;
+    roll_passed(out, plant, plan, passed.shape, k, rates)
 }

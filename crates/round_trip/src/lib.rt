@@ -6,8 +6,9 @@ ghost use Rattle.calls.specs.Check.{check_of};
 ghost use Rattle.calls.specs.Answer.{slot_answer, written_in, output_after};
 ghost use Rattle.round_trip.specs.RoundTrip.{plan_again, round_trip};
 
-use calls::{Check, Written, check_plan};
+use calls::check_plan;
 use plan_writing::plan_writing;
+use sections::Refusal;
 use slot_return::slot_return;
 use units::Profit;
 
@@ -18,31 +19,22 @@ pub struct Back {
     pub profit: Profit,
 }
 
-#[derive(Clone, Copy)]
-pub enum RoundTrip {
-    Returned(Back),
-    Refused(u32),
-}
-
 // Checks the plan, takes its slots, writes the plan of these slots, and checks what was written.
-pub fn round_trip(plant: &[u8], plan: &[u8], slots: &mut [u8], again: &mut [u8]) -> RoundTrip
+pub fn round_trip(
+    plant: &[u8],
+    plan: &[u8],
+    slots: &mut [u8],
+    again: &mut [u8],
+) -> Result<Back, Refusal>
     ensures result { result ≡ round_trip (check_of plant.now plan.now)
         (written_in (plan_again plant.now plan.now slots.old) again.old) }
     ensures slots { slots.new ≡ output_after (slot_answer plant.now plan.now) slots.old }
     ensures plan { again.new
         ≡ output_after (plan_again plant.now plan.now slots.old) again.old }
 {
-    match check_plan(plant, plan) {
-        Check::Refused(n) => RoundTrip::Refused(n),
-        Check::Passed(_) => match slot_return(plant, plan, slots) {
-            Written::Refused(n) => RoundTrip::Refused(n),
-            Written::Length(n) => match plan_writing(plant, &slots[..n], again) {
-                Written::Refused(m) => RoundTrip::Refused(m),
-                Written::Length(m) => match check_plan(plant, &again[..m]) {
-                    Check::Refused(k) => RoundTrip::Refused(k),
-                    Check::Passed(profit) => RoundTrip::Returned(Back { length: m, profit }),
-                },
-            },
-        },
-    }
+    check_plan(plant, plan)?;
+    let n = slot_return(plant, plan, slots)?;
+    let length = plan_writing(plant, &slots[..n], again)?;
+    let profit = check_plan(plant, &again[..length])?;
+    Ok(Back { length, profit })
 }

@@ -1,5 +1,5 @@
+pub mod Candidates
 pub mod Weeks
 pub mod Profits
 pub mod ProductRules
-pub mod Trials
 pub mod Words

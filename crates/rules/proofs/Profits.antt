@@ -15,7 +15,7 @@ use Rattle.mathematics.specs.Below.{sum_below}
 use Rattle.mathematics.proofs.Tables.{sum_priced}
 use Rattle.numbers.specs.Number.{Bytes}
 use Rattle.sections.specs.declared.Shape.{Shape}
-use Rattle.sections.specs.declared.Form.TheVariants.{Good}
+use Rattle.std.specs.Prelude.{Ok}
 use Rattle.plant_file.specs.Plant.{Plant}
 use Rattle.plan_file.specs.Plan.{Plan, plan_of}
 use Rattle.plan_file.specs.Form.{plan_form}
@@ -53,7 +53,7 @@ same_bits a b f g = elim (ℤ_discrete a b) [
 ]
 
 -- a plan's profit, passed on as bits
-pub profit_back : (f : Shape) (s : List ℕ) {r : ℤ} → Bytes s → plan_form f s ≡ Good f → r ≡ (plan_of f s).profit
+pub profit_back : (f : Shape) (s : List ℕ) {r : ℤ} → Bytes s → plan_form f s ≡ Ok f → r ≡ (plan_of f s).profit
     → to_z w64 (of_z w64 r) ≡ (plan_of f s).profit
 profit_back f s b h e = ap (λ (z : ℤ). to_z w64 (of_z w64 z)) e ∙ to_z-of_z w64 _ (plan_fits f s b h).profit
 

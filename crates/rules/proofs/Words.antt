@@ -16,9 +16,8 @@ use Rattle.mathematics.proofs.WeekRules.{facts31, shut_facts, once_or_shut}
 use Rattle.plant_file.specs.Plant.{LinePlant, Plant}
 use Rattle.plant_file.specs.Ranges.{LineRanges}
 use Rattle.plan_file.specs.Plan.{LinePlan, Plan}
-use Rattle.costs.specs.declared.Mounted.{Mounted}
-use Rattle.costs.specs.declared.Mounted.TheVariants.{Nothing, Product}
-use Rattle.costs.specs.Mounted.{is_mounted, mounted_below, opening_mounted}
+use Rattle.std.specs.Prelude.{None, Some}
+use Rattle.costs.specs.Mounted.{Mounted, is_mounted, mounted_below, opening_mounted}
 use Rattle.costs.proofs.Changeovers.{opening_below}
 use Rattle.rules.specs.Rules.{week_of, production_end, mounted_after, mounted_before, rule33}
 use Rattle.rules.specs.Verdict.{trials, tried, verdict_of}
@@ -109,9 +108,9 @@ module _ (N : ℕ) (line : LinePlant) (x : LinePlan) (w : ℕ) where
       go : (t : Bool) → shut N (week_of x w) ≡ t → (n : ℕ) → production_end N x w ≡ n → (m : Mounted) → opening_mounted line ≡ m → mounted_below N m
           → rule33 N line x w ≡ passage_words N x w t n m
       go true s n e m o b = shut_words s
-      go false s zero e Nothing o b = nothing_words (at_opening Nothing o e)
-      go false s zero e (Product p) o b =
-          from_words (is p) (at_opening (Product p) o e) (producing N x w (r w (omega arith)) s).0 (sum_is N p b)
+      go false s zero e None o b = nothing_words (at_opening None o e)
+      go false s zero e (Some p) o b =
+          from_words (is p) (at_opening (Some p) o e) (producing N x w (r w (omega arith)) s).0 (sum_is N p b)
       go false s (suc v) e m o b =
           let earlier = end_produces N x w v e in
           from_words (x.last v) (after_end (suc v) e) (producing N x w (r w (omega arith)) s).0

@@ -11,13 +11,13 @@ use Rattle.numbers.proofs.Number.{room}
 use Rattle.contents.specs.Contents.{extent, Inside}
 use Rattle.contents.proofs.Facts.{placed_facts, sized_at, fits}
 use Rattle.sections.specs.Section.{Holds, Laid}
-use Rattle.sections.specs.Rows.{row}
+use Rattle.sections.specs.Rows.{Form, row}
+use Rattle.sections.specs.declared.Refusal.{Refusal}
 use Rattle.sections.specs.declared.Shape.{Shape}
-use Rattle.sections.specs.declared.Form.{Form}
-use Rattle.sections.specs.declared.Form.TheVariants.{Good}
+use Rattle.std.specs.Prelude.{Ok}
 
 -- a good file has passed the row
-pub row_good : (n : ℕ) (b : Bool) (next : Form) (f : Shape) → row n b next ≡ Good f → (b ≡ true) × (next ≡ Good f)
+pub row_good : (n : Refusal) (b : Bool) (next : Form) (f : Shape) → row n b next ≡ Ok f → (b ≡ true) × (next ≡ Ok f)
 row_good n true next f e = (refl, e)
 row_good n false next f e = absurd (let z : ◌≡◌ {A = ℕ} 0 1 = cc in omega arith)
 

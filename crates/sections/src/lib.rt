@@ -1,4 +1,4 @@
-// What plant, plan and slot files share: the answer of a file's rows, and tests on the numbers of a section.
+// What plant, plan and slot files share: the refusals, a plant's shape, and tests on the numbers of a section.
 #![tactic(auto)]
 
 ghost use Rattle.std.specs.Prelude.{◌≡◌, ◌+◌, ◌*◌, ◌^◌, ◌≤◌, ◌<◌, length};
@@ -7,12 +7,14 @@ ghost use Rattle.numbers.specs.Number.{encode, store};
 ghost use Rattle.contents.specs.Contents.{cell};
 ghost use Rattle.sections.specs.Section.{in_range, diagonal_zero, Holds};
 ghost use Rattle.sections.specs.Pairs.{PairRowOf};
+ghost use Rattle.sections.specs.Rows.{refusal_number};
 
 use contents::entry_in;
-use numbers::{and, as_usize, inside, read, read4};
+use numbers::read;
+use std::fmt;
 
 // The kind of a plant file, and its N, C and W: the counts of products, customers and weeks.
-#[derive(Clone, Copy)]
+#[derive(Clone, Copy, Debug, PartialEq, Eq)]
 pub struct Shape {
     pub kind: u8,
     pub products: u8,
@@ -20,15 +22,57 @@ pub struct Shape {
     pub weeks: u8,
 }
 
-// What a file's rows say: good, for a plant of this shape, or refused with the paper's number.
-#[derive(Clone, Copy)]
-pub enum Form {
-    Good(Shape),
-    Refused(u32),
+// Why a file, a plan or a call is refused, with the paper's number: rows 1 to 5, 11 to 14 and 21 to 24, stop 25, rules 31 to 41 (of which 35, 36
+// and 38 to 40 are stops too), and what the calls that write refuse. A list of rates is refused as a plant's section of them is, by 4 and 5.
+#[derive(Clone, Copy, Debug, PartialEq, Eq)]
+pub enum Refusal {
+    PlantContents = 1,
+    PlantPlaces = 2,
+    PlantLimits = 3,
+    PlantLengths = 4,
+    PlantRanges = 5,
+    PlanContents = 11,
+    PlanPlaces = 12,
+    PlanLengths = 13,
+    PlanMarks = 14,
+    SlotContents = 21,
+    SlotPlaces = 22,
+    SlotLengths = 23,
+    SlotRanges = 24,
+    ProductTwice = 25,
+    Ends = 31,
+    Sequence = 32,
+    Passage = 33,
+    Position = 34,
+    RunMinutes = 35,
+    WeekMinutes = 36,
+    Production = 37,
+    Backlog = 38,
+    Inventory = 39,
+    Storage = 40,
+    Profit = 41,
+    OutputLength = 51,
+    WeeksLeft = 61,
+    OpeningBacklog = 62,
+}
+
+impl Refusal {
+    // The paper's number.
+    pub fn number(self) -> u32
+        ensures { result ≡ refusal_number self }
+    {
+        self as u32
+    }
+}
+
+impl fmt::Display for Refusal {
+    fn fmt<W: fmt::Write>(&self, f: &mut fmt::Formatter<W>) -> fmt::Result {
+        write!(f, "{}", self.number())
+    }
 }
 
 // How a section's numbers stand: how many bytes each has, and how many rows of how many numbers.
-#[derive(Clone, Copy)]
+#[derive(Clone, Copy, Debug, PartialEq, Eq)]
 pub struct Layout {
     pub width: usize,
     pub rows: usize,
@@ -37,7 +81,7 @@ pub struct Layout {
 
 // Where the weeks of a pair stand in a section of 4-byte numbers by customer, product and week. A pair is a customer times the count of
 // products, plus a product.
-#[derive(Clone, Copy)]
+#[derive(Clone, Copy, Debug, PartialEq, Eq)]
 pub struct PairRow {
     pub section: usize,
     pub pair: usize,
@@ -48,14 +92,14 @@ pub struct PairRow {
 pub fn area(a: u8, b: u8) -> usize
     ensures { (result ≡ a * b) × (result ≤ 65025) }
 {
-    as_usize(a) * as_usize(b)
+    usize::from(a) * usize::from(b)
 }
 
 // The count of numbers in a table of a by b by c.
 pub fn volume(a: u8, b: u8, c: u8) -> usize
     ensures { (result ≡ a * b * c) × (result ≤ 16581375) }
 {
-    area(a, b) * as_usize(c)
+    area(a, b) * usize::from(c)
 }
 
 // Where row i, column j stands in a table of m by n.
@@ -63,7 +107,7 @@ pub fn index2(i: usize, m: u8, j: usize, n: u8) -> usize
     requires { (i < m) × (j < n) }
     ensures { (result ≡ i * n + j) × (result < m * n) × (result < 65025) }
 {
-    i * as_usize(n) + j
+    i * usize::from(n) + j
 }
 
 // Where place j of square i stands, of l squares of m by n.
@@ -80,7 +124,7 @@ pub fn pair_row(s: &[u8], f: Shape, section: usize, pair: usize) -> PairRow
     ensures { PairRowOf f s.now result × (result.section ≡ section) × (result.pair ≡ pair) }
 {
     let e = entry_in(s, section);
-    let at = e.offset as usize + 4 * (pair * as_usize(f.weeks));
+    let at = e.offset as usize + 4 * (pair * usize::from(f.weeks));
     PairRow { section, pair, at }
 }
 
@@ -89,7 +133,7 @@ pub fn pair_number(s: &[u8], f: Shape, row: PairRow, week: usize) -> u64
     requires { PairRowOf f s.now row × (week < f.weeks) }
     ensures { (result ≡ cell 4 s.now row.section (row.pair * f.weeks + week)) × (result < 2 ^ 32) }
 {
-    read4(s, row.at + 4 * week)
+    read(s, row.at + 4 * week, 4)
 }
 
 // What the numbers of a product and a week come to over all customers.
@@ -98,14 +142,11 @@ pub fn customer_sum(s: &[u8], f: Shape, section: usize, product: usize, week: us
     ensures { (result ≡ sum_below f.customers (λ c. cell 4 s.now section ((c * f.products + product) * f.weeks + week)))
         × (result < 2 ^ 40) }
 {
-    let customers = as_usize(f.customers);
     let mut sum = 0;
-    let mut customer = 0;
-    while customer < customers {
+    for customer in 0..usize::from(f.customers) {
         let pair = index2(customer, f.customers, product, f.products);
         let row = pair_row(s, f, section, pair);
         sum += pair_number(s, f, row, week);
-        customer += 1;
     }
     sum
 }
@@ -116,15 +157,8 @@ pub fn in_range(s: &[u8], i: usize, k: usize, from: usize, m: usize, lo: u64, hi
     ensures { result ≡ in_range k s.now i from m lo hi }
 {
     let e = entry_in(s, i);
-    let mut p = e.offset as usize + k * from;
-    let mut ok = true;
-    let mut j = 0;
-    while j < m {
-        ok = and(ok, inside(lo, hi, read(s, p, k)));
-        p += k;
-        j += 1;
-    }
-    ok
+    let start = e.offset as usize + k * from;
+    (0..m).all(|j| (lo..=hi).contains(&read(s, start + k * j, k)))
 }
 
 // Stores the bytes of section i, m numbers of k bytes each, at the start of what is lent.
@@ -135,11 +169,7 @@ pub fn copy_section(out: &mut [u8], s: &[u8], i: usize, k: usize, m: usize)
     let e = entry_in(s, i);
     let at = e.offset as usize;
     let size = k * m;
-    let mut j = 0;
-    while j < size {
-        out[j] = s[at + j];
-        j += 1;
-    }
+    out[..size].copy_from_slice(&s[at..at + size]);
 }
 
 // Whether the diagonal of section i, a table of n by n numbers of k bytes, is 0.
@@ -149,11 +179,5 @@ pub fn diagonal_zero(s: &[u8], i: usize, k: usize, n: usize) -> bool
 {
     let e = entry_in(s, i);
     let at = e.offset as usize;
-    let mut ok = true;
-    let mut j = 0;
-    while j < n {
-        ok = and(ok, read(s, at + k * (j * n + j), k) == 0);
-        j += 1;
-    }
-    ok
+    (0..n).all(|j| read(s, at + k * (j * n + j), k) == 0)
 }

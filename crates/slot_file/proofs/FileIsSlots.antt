@@ -21,7 +21,7 @@ use Rattle.contents.proofs.Facts.{at_sized}
 use Rattle.contents.proofs.FileWritten as laid
 use Rattle.contents.proofs.FileLayout as layout
 use Rattle.sections.specs.declared.Shape.{Shape}
-use Rattle.sections.specs.declared.Form.TheVariants.{Good}
+use Rattle.std.specs.Prelude.{Ok}
 use Rattle.sections.proofs.Places.{byte_most}
 use Rattle.sections.proofs.Layouts.{one_row}
 use Rattle.sections.proofs.Tables.{section_at, cube_at}
@@ -150,7 +150,7 @@ module _ (f : Shape) (x : Slots) where
     sizes : sized F (slot_lengths f (slots_before F f.weeks)) ≡ true
     sizes = rw (before_at f.weeks (omega arith)) (at_sized F (slot_lengths f total) (λ i l. extents i l))
 
-    pub file_good : slot_form f F ≡ Good f
+    pub file_good : slot_form f F ≡ Ok f
     unfolding slot_form slot_file slot_bodies
     file_good =
         let heads = laid.file_headed 3 41 (slot_bodies f x) (omega arith) listable in

@@ -1,6 +1,7 @@
 pub mod SlotBytes
 pub mod SlotPlaces
 pub mod SlotReads
+pub mod AcceptedFile
 pub mod SlotRows
 pub mod Orders
 pub mod SlotsIsFile

@@ -10,7 +10,7 @@ use Rattle.numbers.specs.Number.{Bytes}
 use Rattle.numbers.proofs.Number.{encode_ext}
 use Rattle.contents.specs.File.{file_of}
 use Rattle.sections.specs.declared.Shape.{Shape}
-use Rattle.sections.specs.declared.Form.TheVariants.{Good}
+use Rattle.std.specs.Prelude.{Ok}
 use Rattle.slot_file.specs.Slots.{Slots, slots_of, SameSlots}
 use Rattle.slot_file.specs.Form.{slot_form}
 use Rattle.slot_file.specs.File.{slot_bytes, slot_file, slot_bodies}
@@ -30,7 +30,7 @@ pub same_slots : (f : Shape) (s t : List ℕ) → s ≡ t → SameSlots f (slots
 same_slots f s t e =
     record { week = λ w l. ap (λ (q : List ℕ). (slots_of f q).line.week w) e; sales = λ c i w p q r. ap (λ (q : List ℕ). (slots_of f q).sales c i w) e }
 
-pub slots_equal : (f : Shape) (s t : List ℕ) → Bytes s → Bytes t → slot_form f s ≡ Good f → slot_form f t ≡ Good f
+pub slots_equal : (f : Shape) (s t : List ℕ) → Bytes s → Bytes t → slot_form f s ≡ Ok f → slot_form f t ≡ Ok f
     → (s ≡ t) ↔ SameSlots f (slots_of f s) (slots_of f t)
 slots_equal f s t a b p q = (
   same_slots f s t,

@@ -4,14 +4,13 @@ use mathlib.Core.Path.{◌≡◌}
 use mathlib.Core.Bool.{false}
 use mathlib.Core.List.{List}
 use native.Mathlib.Omega.{arith}
-use lib.ListN.{length, get_or}
+use lib.ListN.{length}
 use borrow.Author.Tests.{ne_eqb}
 use Rattle.contents.specs.Contents.{offset, extent, sized}
 use Rattle.contents.specs.File.{start, Listable}
 use Rattle.sections.specs.Section.{Holds, Laid}
 use Rattle.sections.specs.declared.Shape.{Shape}
 use Rattle.sections.proofs.Rows.{width1, width4, laid_holds}
-use Rattle.slot_file.specs.Slots.{slot_at}
 use Rattle.slot_file.specs.Form.{slot_lengths}
 
 -- the contents have room for the sections of a slot file
@@ -35,8 +34,3 @@ module _ (f : Shape) (total : ℕ) (s : List ℕ) (z : Laid s (slot_lengths f to
 pub week_bytes : (f : Shape) (total : ℕ) (s : List ℕ) → (extent s 0 ≡ f.weeks → ⊥) → sized s (slot_lengths f total) ≡ false
 unfolding sized
 week_bytes f total s h = simp (ne_eqb (extent s 0) (1 * (1 * f.weeks)) (λ e. h (omega arith)))
-
--- the byte of a slot's product
-pub product_at_lem : (s : List ℕ) (j at : ℕ) → at ≡ offset s 1 + 3 * j → get_or s at 0 ≡ (slot_at s j).product
-unfolding slot_at
-product_at_lem s j at e = rw e (omega arith)

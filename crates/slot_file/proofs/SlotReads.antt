@@ -1,4 +1,5 @@
 -- What a slot file that passes its rows holds: the rows as facts, and the numbers of `slots_of` within their ranges. Assumes nothing.
+use Rattle.sections.specs.Rows.{Form}
 use Prim.Native.Nat.{ℕ, suc, ◌+◌, ◌*◌, ◌≤◌, ◌<◌, ◌^◌}
 use mathlib.Core.Path.{◌≡◌, refl}
 use mathlib.Core.Bool.{Bool, true, false}
@@ -12,18 +13,18 @@ use Rattle.mathematics.specs.Below.{list_below}
 use Rattle.mathematics.proofs.Below.{and_both, both_and, all_each, each_all, at_within, sum_prefix}
 use Rattle.numbers.specs.Number.{Bytes, encode}
 use Rattle.numbers.proofs.Number.{number_below}
-use Rattle.contents.specs.Contents.{offset, cell, headed, placed, sized}
+use Rattle.contents.specs.Contents.{cell, headed, placed, sized}
 use Rattle.contents.proofs.Facts.{Headed, headed_facts}
 use Rattle.sections.specs.Section.{in_range, Laid, cube}
 use Rattle.sections.specs.declared.Shape.{Shape}
-use Rattle.sections.specs.declared.Form.TheVariants.{Good, Refused}
+use Rattle.std.specs.Prelude.{Err, Ok}
 use Rattle.sections.specs.Rows.{row}
 use Rattle.sections.proofs.Tables.{range_first, cube_flat}
 use Rattle.sections.proofs.Rows.{row_good}
 use Rattle.slot_file.specs.Slots.{Slot, no_slot, slot_count, slot_at, slots_before, slots_of, WeekFormed, SlotsFit}
 use Rattle.slot_file.specs.Form.{slot_lengths, slots_in_range, slot_form}
 use Rattle.mathematics.proofs.Lists.{list_length, list_at, run_below, run_of}
-use Rattle.slot_file.proofs.SlotPlaces.{slots_held}
+use Rattle.sections.specs.declared.Refusal.TheVariants as refusal
 
 -- rows 21 to 24
 pub record SlotGood (f : Shape) (s : List ℕ) : Type 0 where
@@ -32,15 +33,15 @@ pub record SlotGood (f : Shape) (s : List ℕ) : Type 0 where
   pub few : (w : ℕ) → w < f.weeks → slot_count s w ≤ f.products
   pub product : (j : ℕ) → j < slots_before s f.weeks → (slot_at s j).product < f.products
 
-module _ (f g : Shape) (s : List ℕ) (e : slot_form f s ≡ Good g) where
+module _ (f g : Shape) (s : List ℕ) (e : slot_form f s ≡ Ok g) where
   rows : (headed s 3 41 3 ≡ true) × (placed s 3 ≡ true) × (sized s (slot_lengths f (slots_before s f.weeks)) ≡ true)
-      × (slots_in_range s f ≡ true) × (Good f ≡ Good g)
+      × (slots_in_range s f ≡ true) × (◌≡◌ {A = Form} (Ok f) (Ok g))
   unfolding slot_form
   rows =
-      let a = row_good 21 (headed s 3 41 3) _ g e in
-      let b = row_good 22 (placed s 3) _ g a.1 in
-      let d = row_good 23 (sized s (slot_lengths f (slots_before s f.weeks))) _ g b.1 in
-      let r = row_good 24 (slots_in_range s f) _ g d.1 in
+      let a = row_good refusal.SlotContents (headed s 3 41 3) _ g e in
+      let b = row_good refusal.SlotPlaces (placed s 3) _ g a.1 in
+      let d = row_good refusal.SlotLengths (sized s (slot_lengths f (slots_before s f.weeks))) _ g b.1 in
+      let r = row_good refusal.SlotRanges (slots_in_range s f) _ g d.1 in
       (a.0, b.0, d.0, r.0, r.1)
 
   pub slot_good : SlotGood f s
@@ -60,11 +61,6 @@ module _ (f g : Shape) (s : List ℕ) (e : slot_form f s ≡ Good g) where
   -- a good slot file has the plant's shape
   pub slot_shape : g ≡ f
   slot_shape = let q = rows.4 in cc
-
--- slot j of all lies within the file
-pub slot_inside : (f : Shape) (s : List ℕ) → slot_form f s ≡ Good f → (j : ℕ) → j < slots_before s f.weeks
-    → (29 ≤ length s) × (offset s 1 + 3 * j + 3 ≤ length s)
-slot_inside f s e j l = let z = (slot_good f f s e).laid in (z.long, omega (arith, slots_held f _ _ z))
 
 -- the slots of a week
 pub week_list : (f : Shape) (s : List ℕ) (w : ℕ) → (slots_of f s).line.week w ≡ list_below (slot_count s w) (λ k. slot_at s (slots_before s w + k))
@@ -105,7 +101,7 @@ pub sales_below : (f : Shape) (s : List ℕ) → Bytes s → (c i w : ℕ) → (
 unfolding slots_of cell
 sales_below f s b c i w = number_below 4 s _ b
 
-module _ (f : Shape) (s : List ℕ) (e : slot_form f s ≡ Good f) where
+module _ (f : Shape) (s : List ℕ) (e : slot_form f s ≡ Ok f) where
   pub slots_formed : (w : ℕ) → w < f.weeks → WeekFormed f.products ((slots_of f s).line.week w)
   slots_formed w l =
       let h = slot_good f f s e in
@@ -145,12 +141,12 @@ module _ (f : Shape) (s : List ℕ) (h : (w : ℕ) → w < f.weeks → WeekForme
       (each_all (slots_before s f.weeks) _ (λ j l. lt-ltb _ _ (product_below j l)))
 
   -- so that no such file is refused with 24
-  pub formed_not_24 : slot_form f s ≡ Refused 24 → ⊥
+  pub formed_not_24 : slot_form f s ≡ Err refusal.SlotRanges → ⊥
   unfolding slot_form
   formed_not_24 e =
       go (headed s 3 41 3) (placed s 3) (sized s (slot_lengths f (slots_before s f.weeks))) (rw formed_range at e)
     where
-      go : (a b c : Bool) → row 21 a (row 22 b (row 23 c (Good f))) ≡ Refused 24 → ⊥
+      go : (a b c : Bool) → row refusal.SlotContents a (row refusal.SlotPlaces b (row refusal.SlotLengths c (Ok f))) ≡ Err refusal.SlotRanges → ⊥
       go true true true e = let z : ◌≡◌ {A = ℕ} 0 1 = cc in omega arith
       go true true false e = let z : ◌≡◌ {A = ℕ} 23 24 = cc in omega arith
       go true false c e = let z : ◌≡◌ {A = ℕ} 22 24 = cc in omega arith

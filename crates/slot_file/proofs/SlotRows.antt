@@ -11,9 +11,11 @@ use Rattle.sections.specs.declared.Shape.{Shape}
 use Rattle.slot_file.specs.Slots.{Slot as FileSlot, no_slot, slot_count, slot_at, slots_before, slots_of}
 use Rattle.slot_file.specs.declared.Slot.{Slot}
 use Rattle.slot_file.specs.declared.SlotRow.{SlotRow}
+use Rattle.slot_file.specs.declared.WeekRow.{WeekRow}
 use Rattle.slot_file.specs.Row.{slot_of, slots_in, RowOf}
 use Rattle.slot_file.proofs.SlotPlaces.{slots_held}
-use Rattle.slot_file.proofs.SlotReads.{slot_good, slot_inside, week_length, week_slot, slot_below, week_below}
+use Rattle.slot_file.proofs.AcceptedFile.{good, inside}
+use Rattle.slot_file.proofs.SlotReads.{week_length, week_slot, slot_below, week_below}
 
 list_next : (n : ℕ) (g : ℕ → FileSlot) → list_below (suc n) g ≡ list_below n g ++ (g n ∷ [])
 list_next zero g = refl
@@ -33,24 +35,31 @@ pub before_next : (s : List ℕ) (w : ℕ) → slots_before s (suc w) ≡ slots_
 unfolding slots_before
 before_next s w = refl
 
-module _ {f : Shape} {s : List ℕ} {row : SlotRow} (h : RowOf f s row) (l : row.week < f.weeks) where
-  pub row_length : length ((slots_of f s).line.week row.week) ≡ row.count
-  row_length = week_length f s row.week ∙ sym (h.count l)
+pub row_length : {f : Shape} {s : List ℕ} {row : SlotRow} → RowOf f s row → row.week < f.weeks → length ((slots_of f s).line.week row.week) ≡ row.count
+row_length {f} {s} {row} h l = week_length f s row.week ∙ sym (h.count l)
+
+module _ (row : WeekRow) (l : row.week < row.file.shape.weeks) where
+  abbrev f : Shape
+  f = row.file.shape
+
+  abbrev s : List ℕ
+  s = row.file.bytes.now
 
   pub row_end : row.first + row.count ≡ slots_before s (row.week + 1)
-  row_end = rw (add-one, before_next s row.week, h.first, h.count l)
+  row_end = rw add-one (omega (arith, before_next s row.week, row.begins, row.counted l))
 
   pub row_end_held : row.first + row.count ≤ length s
   row_end_held =
-      omega (arith, h.first, h.count l, week_below s f.weeks row.week l, slots_held f _ s (slot_good f f s h.good).laid)
+      omega (arith, row.begins, row.counted l, week_below s f.weeks row.week l, slots_held f _ s (good row.file).laid)
 
   module _ (k : ℕ) (m : k < row.count) where
     -- slot k is one of all, and lies within the file
     pub row_slot_known : row.first + k < slots_before s f.weeks
-    row_slot_known = omega (arith, h.first, slot_below s f.weeks row.week k l (omega (arith, h.count l)))
+    row_slot_known = omega (arith, row.begins, slot_below s f.weeks row.week k l (omega (arith, row.counted l)))
 
     pub row_slot_held : row.first + k ≤ length s
-    row_slot_held = omega (arith, slot_inside f s h.good (row.first + k) row_slot_known)
+    row_slot_held = omega (arith, (inside row.file (row.first + k) row_slot_known).1)
 
     pub row_slot_is : slot_at s (row.first + k) ≡ get_or ((slots_of f s).line.week row.week) k no_slot
-    row_slot_is = rw h.first (sym (week_slot f s row.week k no_slot (omega (arith, h.count l))))
+    row_slot_is =
+        ap (λ (n : ℕ). slot_at s (n + k)) row.begins ∙ sym (week_slot f s row.week k no_slot (omega (arith, row.counted l)))

@@ -13,7 +13,7 @@ use Rattle.contents.proofs.Facts.{placed_facts}
 use Rattle.contents.proofs.FileLayout.{file_is_layout}
 use Rattle.sections.specs.Section.{cube}
 use Rattle.sections.specs.declared.Shape.{Shape}
-use Rattle.sections.specs.declared.Form.TheVariants.{Good}
+use Rattle.std.specs.Prelude.{Ok}
 use Rattle.sections.proofs.Tables.{cube_flat, section_is}
 use Rattle.sections.proofs.Layouts.{one_row}
 use Rattle.sections.proofs.Rows.{laid_extent}
@@ -35,7 +35,7 @@ slot_digits s b j =
     let high : (p + 256 * r) / 256 ≡ r = omega (arith, b at) in
     rw (low, high)
 
-module _ (f : Shape) (s : List ℕ) (b : Bytes s) (e : slot_form f s ≡ Good f) where
+module _ (f : Shape) (s : List ℕ) (b : Bytes s) (e : slot_form f s ≡ Ok f) where
   good : SlotGood f s
   good = slot_good f f s e
 

@@ -4,13 +4,13 @@ use Rattle.std.specs.Prelude.{ℕ, ◌*◌, Bool, ◌&&◌, List, [], ◌∷◌,
 use Rattle.mathematics.specs.Below.{all_below}
 use Rattle.contents.specs.Contents.{headed, placed, sized}
 use Rattle.sections.specs.Section.{in_range}
-use Rattle.sections.specs.Rows.{row}
+use Rattle.sections.specs.Rows.{Form, row}
 use Rattle.sections.specs.Layout.{slot_kind, layout, lengths_of}
 use Rattle.sections.specs.declared.Layout.{Layout}
 use Rattle.sections.specs.declared.Shape.{Shape}
-use Rattle.sections.specs.declared.Form.{Form}
-use Rattle.sections.specs.declared.Form.TheVariants.{Good}
+use Rattle.std.specs.Prelude.{Ok}
 use Rattle.slot_file.specs.Slots.{slot_at, slots_before}
+use Rattle.sections.specs.declared.Refusal.TheVariants as refusal
 
 -- sections 41 to 43, where the slots are `total` in all: a byte a week; product (1 byte) and minutes (2) of a slot; section 5's order, 4 bytes
 abbrev pub slot_layout : Shape → ℕ → List Layout
@@ -28,8 +28,8 @@ slots_in_range s f =
 -- rows 21 to 24: a slot file is a file of kind 3 with sections 41 to 43; 42 is three times the sum of 41 long
 unfoldable pub slot_form : Shape → List ℕ → Form
 slot_form f s =
-    row 21 (headed s slot_kind.number slot_kind.first slot_kind.sections)
-    (row 22 (placed s slot_kind.sections)
-    (row 23 (sized s (slot_lengths f (slots_before s f.weeks)))
-    (row 24 (slots_in_range s f)
-    (Good f))))
+    row refusal.SlotContents (headed s slot_kind.number slot_kind.first slot_kind.sections)
+    (row refusal.SlotPlaces (placed s slot_kind.sections)
+    (row refusal.SlotLengths (sized s (slot_lengths f (slots_before s f.weeks)))
+    (row refusal.SlotRanges (slots_in_range s f)
+    (Ok f))))

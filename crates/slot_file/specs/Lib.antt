@@ -2,3 +2,4 @@ pub mod Slots
 pub mod Form
 pub mod File
 pub mod Row
+pub mod Accepted

@@ -1,22 +1,21 @@
 // Slot files, kind 3: the rows of refusal, the numbers of each section, and the writing of one.
 #![tactic(auto)]
 
-ghost use Rattle.std.specs.Prelude.{◌≡◌, true, ◌++◌, ◌+◌, ◌*◌, ◌/◌, ◌%◌, ◌≤◌, ◌<◌, ◌^◌, ltb, length, get_or, take};
+ghost use Rattle.std.specs.Prelude.{◌≡◌, true, ◌++◌, ◌+◌, ◌*◌, ◌/◌, ◌%◌, ◌≤◌, ◌<◌, ◌^◌, ltb, length, get_or, take, Ok, MatchResult};
 ghost use Rattle.mathematics.specs.Below.{sum_below, all_below, list_below};
-ghost use Rattle.numbers.specs.Number.{digits, store};
+ghost use Rattle.numbers.specs.Number.{Bytes, digits, store};
 ghost use Rattle.contents.specs.Contents.{offset, placed, sized};
 ghost use Rattle.contents.specs.File.{start, contents_bytes, Listable};
 ghost use Rattle.sections.specs.Section.{Holds, Laid, cube};
 ghost use Rattle.sections.specs.Layout.{slot_kind, contents_length};
-ghost use Rattle.sections.specs.declared.Form.TheVariants.{Good};
 ghost use Rattle.slot_file.specs.Slots.{no_slot, slot_count, slot_at, slots_before, slots_of};
 ghost use Rattle.slot_file.specs.Row.{slots_in, RowOf, SalesRow};
 ghost use Rattle.slot_file.specs.Form.{slot_lengths, slots_in_range, slot_form};
 
 use contents::{cell_in, entry_in, is_headed, is_placed, is_sized};
-use numbers::{and, as_usize, read2, wide, write};
+use numbers::{read, write};
 use sections::{
-    Form, PairRow, Shape, copy_section, customer_sum, in_range, pair_number, pair_row, volume,
+    PairRow, Refusal, Shape, copy_section, customer_sum, in_range, pair_number, pair_row, volume,
 };
 use units::Minutes;
 
@@ -26,7 +25,7 @@ const FIRST: u64 = 41;
 
 const SECTIONS: usize = 3;
 
-// The places of sections 41 to 43 in the contents.
+// The places of sections 41 to 43 in the contents: numbers and no enum, since `contents` and `sections` take a place as a number.
 pub const COUNTS: usize = 0;
 
 pub const SLOTS: usize = 1;
@@ -43,14 +42,56 @@ pub struct Slot {
     pub minutes: Minutes,
 }
 
-// The slots of a week in running order: the first `count` of an array.
+// The slots of a week in running order: the first `count` of an array. A `Vec` would need a heap, which this crate does without.
 #[derive(Clone, Copy)]
 pub struct WeekSlots {
     pub slots: [Slot; 16],
     pub count: usize,
+    pub ghost few: { count ≤ 16 },
 }
 
-// Where the slots of a week stand: `count` of them, from slot `first` of all on. After the last week there are none.
+impl WeekSlots {
+    // The slots alone.
+    pub fn as_slice(&self) -> &[Slot]
+        ensures { result.now ≡ take self.now.count self.now.slots }
+    {
+        &self.slots[..self.count]
+    }
+}
+
+// The bytes of a slot file that rows 21 to 24 accept for a plant of a shape. That each is below 256 is said too, since the type of a slice in a
+// struct does not say it to proofs.
+#[derive(Clone, Copy)]
+pub struct SlotFile<'a> {
+    pub bytes: &'a [u8],
+    pub shape: Shape,
+    pub ghost accepted: { slot_form shape bytes.now ≡ Ok shape },
+    pub ghost octets: { Bytes bytes.now },
+}
+
+// Where the slots of a week of a file stand: `count` of them, from slot `first` of all on. After the last week there are none.
+#[derive(Clone, Copy)]
+pub struct WeekRow<'a> {
+    pub file: SlotFile<'a>,
+    pub week: usize,
+    pub first: usize,
+    pub count: usize,
+    pub ghost known: { week ≤ file.shape.weeks },
+    pub ghost begins: { first ≡ slots_before file.bytes.now week },
+    pub ghost counted: { week < file.shape.weeks → count ≡ slot_count file.bytes.now week },
+}
+
+// Where a pair's sales stand in a file, week by week.
+#[derive(Clone, Copy)]
+pub struct PairSales<'a> {
+    pub file: SlotFile<'a>,
+    pub pair: usize,
+    pub at: usize,
+    pub ghost known: { pair < file.shape.customers * file.shape.products },
+    pub ghost begins: { at ≡ offset file.bytes.now 2 + 4 * (pair * file.shape.weeks) },
+}
+
+// Where the slots of a week stand, without their file.
 #[derive(Clone, Copy)]
 pub struct SlotRow {
     pub week: usize,
@@ -65,36 +106,35 @@ fn lengths_of(f: Shape, total: usize) -> [u64; 3]
 {
     let slots = total as u64;
     let sales = volume(f.customers, f.products, f.weeks) as u64;
-    [wide(f.weeks), 3 * slots, 4 * sales]
+    [u64::from(f.weeks), 3 * slots, 4 * sales]
 }
 
 // The slots before week w.
+#[tactic(auto, unfolding(crate::specs::Slots::slots_before, crate::specs::Slots::slot_count, contents::specs::Contents::cell))]
 fn slots_before(s: &[u8], w: usize) -> usize
     requires { Holds s.now 0 1 w × (w < 256) }
     ensures { (result ≡ slots_before s.now w) × (result ≤ 65025) }
 {
     let e = entry_in(s, COUNTS);
-    let mut p = e.offset as usize;
+    let at = e.offset as usize;
     let mut sum = 0;
-    let mut i = 0;
-    while i < w {
-        sum += as_usize(s[p]);
-        p += 1;
-        i += 1;
+    for i in 0..w {
+        sum += usize::from(s[at + i]);
     }
     sum
 }
 
 // Row 23. Section 41's length comes first: only then do its bytes surely lie within the file.
+#[tactic(auto, using(crate::proofs::SlotPlaces::week_bytes))]
 fn has_lengths(s: &[u8], f: Shape) -> bool
     requires { (contents_length slot_kind ≤ length s.now) × (placed s.now slot_kind.sections ≡ true) }
     ensures { result ≡ sized s.now (slot_lengths f (slots_before s.now f.weeks)) }
 {
     let e = entry_in(s, COUNTS);
-    if e.length != wide(f.weeks) {
+    if e.length != u64::from(f.weeks) {
         return false;
     }
-    let lengths = lengths_of(f, slots_before(s, as_usize(f.weeks)));
+    let lengths = lengths_of(f, slots_before(s, usize::from(f.weeks)));
     is_sized(s, &lengths)
 }
 
@@ -112,226 +152,259 @@ fn has_products(s: &[u8], total: usize, n: u64) -> bool
     requires { (contents_length slot_kind ≤ length s.now) × (offset s.now 1 + 3 * total ≤ length s.now) }
     ensures { result ≡ all_below total (λ j. ltb (slot_at s.now j).product n) }
 {
-    let mut ok = true;
-    let mut j = 0;
-    while j < total {
-        let at = slot_place(s, j);
-        ok = and(ok, wide(s[at]) < n);
-        j += 1;
-    }
-    ok
+    (0..total).all(|j| u64::from(s[slot_place(s, j)]) < n)
 }
 
 // Row 24.
+#[tactic(auto, unfolding(crate::specs::Form::slots_in_range))]
 fn is_in_range(s: &[u8], f: Shape) -> bool
     requires { Laid s.now (slot_lengths f (slots_before s.now f.weeks)) }
     ensures { result ≡ slots_in_range s.now f }
 {
-    let weeks = as_usize(f.weeks);
+    let weeks = usize::from(f.weeks);
     let total = slots_before(s, weeks);
-    let n = wide(f.products);
-    and(
-        in_range(s, COUNTS, 1, 0, weeks, 0, n),
-        has_products(s, total, n),
-    )
+    let n = u64::from(f.products);
+    in_range(s, COUNTS, 1, 0, weeks, 0, n) && has_products(s, total, n)
 }
 
 // Rows 21 to 24: good for a plant of shape f, or the number of the first row that turns the file down.
-pub fn slot_form(s: &[u8], f: Shape) -> Form
+#[tactic(auto, using(contents::proofs::Facts::headed_facts), unfolding(crate::specs::Form::slot_form))]
+pub fn slot_form(s: &[u8], f: Shape) -> Result<Shape, Refusal>
     ensures { result ≡ slot_form f s.now }
 {
     if !is_headed(s, KIND, FIRST, SECTIONS) {
-        return Form::Refused(21);
+        return Err(Refusal::SlotContents);
     }
     if !is_placed(s, SECTIONS) {
-        return Form::Refused(22);
+        return Err(Refusal::SlotPlaces);
     }
     if !has_lengths(s, f) {
-        return Form::Refused(23);
+        return Err(Refusal::SlotLengths);
     }
     if !is_in_range(s, f) {
-        return Form::Refused(24);
+        return Err(Refusal::SlotRanges);
     }
-    Form::Good(f)
+    Ok(f)
 }
 
-// Section 41: the slots of a week.
-pub fn slot_count(s: &[u8], f: Shape, week: usize) -> usize
-    requires { (slot_form f s.now ≡ Good f) × (week < f.weeks) }
-    ensures { (result ≡ slot_count s.now week) × (result ≤ f.products) }
-{
-    cell_in(s, COUNTS, 1, week) as usize
-}
+impl<'a> SlotFile<'a> {
+    ghost use Rattle.slot_file.specs.Accepted.{slots_in_file};
 
-// How many slots the file has before a week; before the week after the last, all.
-pub fn week_start(s: &[u8], f: Shape, week: usize) -> usize
-    requires { (slot_form f s.now ≡ Good f) × (week ≤ f.weeks) }
-    ensures { (result ≡ slots_before s.now week) × (result ≤ 65025) }
-{
-    slots_before(s, week)
-}
+    // The file of these bytes, or the number of the first row that turns it down.
+    pub fn read(bytes: &'a [u8], shape: Shape) -> Result<SlotFile<'a>, Refusal>
+        ensures { MatchResult result (λ file. (file.bytes ≡ bytes.entry) × (file.shape ≡ shape) × (slot_form shape bytes.now ≡ Ok shape))
+            (λ refusal. slot_form shape bytes.now ≡ Err refusal) }
+    {
+        slot_form(bytes, shape)?;
+        Ok(SlotFile { bytes, shape })
+    }
 
-// Section 42: the product of slot j of all.
-pub fn slot_product(s: &[u8], f: Shape, j: usize) -> usize
-    requires { (slot_form f s.now ≡ Good f) × (j < slots_before s.now f.weeks) }
-    ensures { (result ≡ (slot_at s.now j).product) × (result < f.products) }
-{
-    let at = slot_place(s, j);
-    as_usize(s[at])
-}
+    // Section 41: the slots of a week.
+    pub fn slot_count(self, week: usize) -> usize
+        requires { week < self.shape.weeks }
+        ensures { (result ≡ slot_count self.entry.bytes.now week) × (result ≤ self.entry.shape.products) }
+    {
+        cell_in(self.bytes, COUNTS, 1, week) as usize
+    }
 
-// Section 42: the minutes of slot j of all.
-pub fn slot_minutes(s: &[u8], f: Shape, j: usize) -> u64
-    requires { (slot_form f s.now ≡ Good f) × (j < slots_before s.now f.weeks) }
-    ensures { (result ≡ (slot_at s.now j).minutes) × (result < 2 ^ 16) }
-{
-    let at = slot_place(s, j);
-    read2(s, at + 1)
-}
+    // How many slots the file has before a week; before the week after the last, all.
+    #[tactic(auto, using(crate::proofs::AcceptedFile::counts_before))]
+    pub fn week_start(self, week: usize) -> usize
+        requires { week ≤ self.shape.weeks }
+        ensures { (result ≡ slots_before self.entry.bytes.now week) × (result ≤ 65025) }
+    {
+        slots_before(self.bytes, week)
+    }
 
-// The slots of a week that begin at slot `first` of all.
-fn row_at(s: &[u8], f: Shape, week: usize, first: usize) -> SlotRow
-    requires { (slot_form f s.now ≡ Good f) × (week ≤ f.weeks) × (first ≡ slots_before s.now week) }
-    ensures { RowOf f s.now result × (result.week ≡ week) }
-{
-    if week == as_usize(f.weeks) {
-        return SlotRow {
+    // Section 42: the product of slot j of all.
+    pub fn slot_product(self, j: usize) -> usize
+        requires { j < slots_before self.bytes.now self.shape.weeks }
+        ensures { (result ≡ (slot_at self.entry.bytes.now j).product) × (result < self.entry.shape.products) }
+    {
+        let at = slot_place(self.bytes, j);
+        usize::from(self.bytes[at])
+    }
+
+    // Section 42: the minutes of slot j of all.
+    pub fn slot_minutes(self, j: usize) -> u64
+        requires { j < slots_before self.bytes.now self.shape.weeks }
+        ensures { (result ≡ (slot_at self.entry.bytes.now j).minutes) × (result < 2 ^ 16) }
+    {
+        let at = slot_place(self.bytes, j);
+        read(self.bytes, at + 1, 2)
+    }
+
+    // The slots of a week that begin at slot `first` of all.
+    fn row_at(self, week: usize, first: usize) -> WeekRow<'a>
+        requires { (week ≤ self.shape.weeks) × (first ≡ slots_before self.bytes.now week) }
+        ensures { (result.file ≡ self.entry) × (result.week ≡ week) }
+    {
+        if week == usize::from(self.shape.weeks) {
+            return WeekRow {
+                file: self,
+                week,
+                first,
+                count: 0,
+            };
+        }
+        let count = self.slot_count(week);
+        WeekRow {
+            file: self,
             week,
             first,
-            count: 0,
+            count,
+        }
+    }
+
+    // The slots of the first week.
+    #[tactic(auto, unfolding(crate::specs::Slots::slots_before))]
+    pub fn first_row(self) -> WeekRow<'a>
+        ensures { (result.file ≡ self.entry) × (result.week ≡ 0) }
+    {
+        self.row_at(0, 0)
+    }
+
+    // Slots of the file at the start of an array: `count` of them, from slot `first` of all on.
+    fn slot_row(self, first: usize, count: usize) -> [Slot; 16]
+        requires { (first + count ≤ slots_before self.bytes.now self.shape.weeks) × (count ≤ 16) }
+        ensures { slots_in (take count result) ≡ list_below count (λ k. slot_at self.entry.bytes.now (first + k)) }
+    {
+        let mut row = [Slot {
+            product: 0,
+            minutes: Minutes(0),
+        }; 16];
+        for k in 0..count {
+            let j = first + k;
+            let product = self.slot_product(j);
+            let minutes = Minutes(self.slot_minutes(j));
+            row[k] = Slot { product, minutes };
+        }
+        row
+    }
+
+    // Sections 41 and 42: the slots of a week, of at most 16 products.
+    pub fn week_slots(self, week: usize) -> WeekSlots
+        requires { (week < self.shape.weeks) × (self.shape.products ≤ 16) }
+        ensures { slots_in (take result.count result.slots) ≡ (slots_in_file self.entry).line.week week }
+    {
+        let count = self.slot_count(week);
+        let first = self.week_start(week);
+        let slots = self.slot_row(first, count);
+        WeekSlots { slots, count }
+    }
+
+    // Where a pair's sales stand, week by week.
+    #[tactic(auto, using(crate::proofs::AcceptedFile::sales))]
+    pub fn sales_row(self, pair: usize) -> PairSales<'a>
+        requires { pair < self.shape.customers * self.shape.products }
+        ensures { (result.file ≡ self.entry) × (result.pair ≡ pair) }
+    {
+        let row = pair_row(self.bytes, self.shape, SALES, pair);
+        PairSales {
+            file: self,
+            pair,
+            at: row.at,
+        }
+    }
+
+    // Section 43: a week's sales of a pair: customer times the count of products, plus product.
+    pub fn pair_sales(self, pair: usize, week: usize) -> u64
+        requires { (pair < self.shape.customers * self.shape.products) × (week < self.shape.weeks) }
+        ensures { (result ≡ (slots_in_file self.entry).sales
+            (pair / self.entry.shape.products) (pair % self.entry.shape.products) week) × (result < 2 ^ 32) }
+    {
+        self.sales_row(pair).sales(week)
+    }
+
+    // The grams of a product sold in a week, over all customers.
+    #[tactic(auto, using(crate::proofs::AcceptedFile::sales), unfolding(crate::specs::Slots::slots_of))]
+    pub fn sold(self, week: usize, product: usize) -> u64
+        requires { (week < self.shape.weeks) × (product < self.shape.products) }
+        ensures { (result ≡ sum_below self.entry.shape.customers
+            (λ c. (slots_in_file self.entry).sales c product week)) × (result < 2 ^ 40) }
+    {
+        customer_sum(self.bytes, self.shape, SALES, product, week)
+    }
+
+    // Stores section 43's bytes at the start of what is lent.
+    #[tactic(auto, using(crate::proofs::AcceptedFile::sales, crate::proofs::SlotReads::sales_cube))]
+    pub fn write_sales(self, out: &mut [u8])
+        requires { 4 * (self.shape.customers * self.shape.products * self.shape.weeks) ≤ length out.old }
+        ensures { out.new ≡ store out.old 0 (cube 4 self.entry.shape.customers self.entry.shape.products self.entry.shape.weeks
+            (slots_in_file self.entry).sales) }
+    {
+        let numbers = volume(self.shape.customers, self.shape.products, self.shape.weeks);
+        copy_section(out, self.bytes, SALES, 4, numbers);
+    }
+}
+
+impl<'a> WeekRow<'a> {
+    ghost use Rattle.slot_file.specs.Accepted.{slots_in_week};
+
+    // The slots of the week after.
+    #[tactic(auto, using(crate::proofs::SlotRows::row_end, crate::proofs::SlotRows::row_end_held))]
+    pub fn next(self) -> WeekRow<'a>
+        requires { self.week < self.file.shape.weeks }
+        ensures { (result.file ≡ self.entry.file) × (result.week ≡ self.entry.week + 1) }
+    {
+        self.file.row_at(self.week + 1, self.first + self.count)
+    }
+
+    // Which slot of all slot k is.
+    fn slot_in(self, k: usize) -> usize
+        requires { (self.week < self.file.shape.weeks) × (k < self.count) }
+        ensures { (slot_at self.entry.file.bytes.now result ≡ get_or (slots_in_week self.entry) k no_slot)
+            × (result < slots_before self.entry.file.bytes.now self.entry.file.shape.weeks) }
+    {
+        self.first + k
+    }
+
+    // The product of slot k.
+    pub fn product(self, k: usize) -> usize
+        requires { (self.week < self.file.shape.weeks) × (k < self.count) }
+        ensures { (result ≡ (get_or (slots_in_week self.entry) k no_slot).product)
+            × (result < self.entry.file.shape.products) }
+    {
+        self.file.slot_product(self.slot_in(k))
+    }
+
+    // The minutes of slot k.
+    pub fn minutes(self, k: usize) -> u64
+        requires { (self.week < self.file.shape.weeks) × (k < self.count) }
+        ensures { (result ≡ (get_or (slots_in_week self.entry) k no_slot).minutes)
+            × (result < 2 ^ 16) }
+    {
+        self.file.slot_minutes(self.slot_in(k))
+    }
+}
+
+impl PairSales<'_> {
+    ghost use Rattle.slot_file.specs.Accepted.{slots_in_file};
+
+    // Section 43: a week's sales of the pair's product to its customer.
+    pub fn sales(self, week: usize) -> u64
+        requires { week < self.file.shape.weeks }
+        ensures { (result ≡ (slots_in_file self.entry.file).sales
+            (self.entry.pair / self.entry.file.shape.products) (self.entry.pair % self.entry.file.shape.products) week)
+            × (result < 2 ^ 32) }
+    {
+        let row = PairRow {
+            section: SALES,
+            pair: self.pair,
+            at: self.at,
         };
+        pair_number(self.file.bytes, self.file.shape, row, week)
     }
-    let count = slot_count(s, f, week);
-    SlotRow { week, first, count }
-}
-
-// The slots of the first week.
-pub fn first_row(s: &[u8], f: Shape) -> SlotRow
-    requires { slot_form f s.now ≡ Good f }
-    ensures { RowOf f s.now result × (result.week ≡ 0) }
-{
-    row_at(s, f, 0, 0)
-}
-
-// The slots of the week after a week.
-pub fn next_row(s: &[u8], f: Shape, row: SlotRow) -> SlotRow
-    requires { RowOf f s.now row × (row.week < f.weeks) }
-    ensures { RowOf f s.now result × (result.week ≡ row.week + 1) }
-{
-    row_at(s, f, row.week + 1, row.first + row.count)
-}
-
-// Which slot of all slot k of a week is.
-fn slot_in(s: &[u8], f: Shape, row: SlotRow, k: usize) -> usize
-    requires { RowOf f s.now row × (row.week < f.weeks) × (k < row.count) }
-    ensures { (slot_at s.now result ≡ get_or ((slots_of f s.now).line.week row.week) k no_slot)
-        × (result < slots_before s.now f.weeks) }
-{
-    row.first + k
-}
-
-// The product of slot k of a week.
-pub fn row_product(s: &[u8], f: Shape, row: SlotRow, k: usize) -> usize
-    requires { RowOf f s.now row × (row.week < f.weeks) × (k < row.count) }
-    ensures { (result ≡ (get_or ((slots_of f s.now).line.week row.week) k no_slot).product) × (result < f.products) }
-{
-    slot_product(s, f, slot_in(s, f, row, k))
-}
-
-// The minutes of slot k of a week.
-pub fn row_minutes(s: &[u8], f: Shape, row: SlotRow, k: usize) -> u64
-    requires { RowOf f s.now row × (row.week < f.weeks) × (k < row.count) }
-    ensures { (result ≡ (get_or ((slots_of f s.now).line.week row.week) k no_slot).minutes) × (result < 2 ^ 16) }
-{
-    slot_minutes(s, f, slot_in(s, f, row, k))
-}
-
-// Slots of the file at the start of an array: `count` of them, from slot `first` of all on.
-fn slot_row(s: &[u8], f: Shape, first: usize, count: usize) -> [Slot; 16]
-    requires { (slot_form f s.now ≡ Good f) × (first + count ≤ slots_before s.now f.weeks) × (count ≤ 16) }
-    ensures { slots_in (take count result) ≡ list_below count (λ k. slot_at s.now (first + k)) }
-{
-    let mut row = [Slot {
-        product: 0,
-        minutes: Minutes(0),
-    }; 16];
-    let mut k = 0;
-    while k < count {
-        let j = first + k;
-        let product = slot_product(s, f, j);
-        let minutes = Minutes(slot_minutes(s, f, j));
-        row[k] = Slot { product, minutes };
-        k += 1;
-    }
-    row
-}
-
-// Sections 41 and 42: the slots of a week, of at most 16 products.
-pub fn week_slots(s: &[u8], f: Shape, week: usize) -> WeekSlots
-    requires { (slot_form f s.now ≡ Good f) × (week < f.weeks) × (f.products ≤ 16) }
-    ensures { (slots_in (take result.count result.slots) ≡ (slots_of f s.now).line.week week) × (result.count ≤ 16) }
-{
-    let count = slot_count(s, f, week);
-    let first = week_start(s, f, week);
-    let slots = slot_row(s, f, first, count);
-    WeekSlots { slots, count }
-}
-
-// Where a pair's sales stand, week by week.
-pub fn sales_row(s: &[u8], f: Shape, pair: usize) -> PairRow
-    requires { (slot_form f s.now ≡ Good f) × (pair < f.customers * f.products) }
-    ensures { SalesRow f s.now result × (result.pair ≡ pair) }
-{
-    pair_row(s, f, SALES, pair)
-}
-
-// Section 43: a week's sales of its product to its customer.
-pub fn week_sales(s: &[u8], f: Shape, row: PairRow, week: usize) -> u64
-    requires { SalesRow f s.now row × (week < f.weeks) }
-    ensures { (result ≡ (slots_of f s.now).sales (row.pair / f.products) (row.pair % f.products) week) × (result < 2 ^ 32) }
-{
-    pair_number(s, f, row, week)
-}
-
-// The same of a pair: customer times the count of products, plus product.
-pub fn pair_sales(s: &[u8], f: Shape, pair: usize, week: usize) -> u64
-    requires { (slot_form f s.now ≡ Good f) × (pair < f.customers * f.products) × (week < f.weeks) }
-    ensures { (result ≡ (slots_of f s.now).sales (pair / f.products) (pair % f.products) week) × (result < 2 ^ 32) }
-{
-    let row = sales_row(s, f, pair);
-    week_sales(s, f, row, week)
-}
-
-// The grams of a product sold in a week, over all customers.
-pub fn sold(s: &[u8], f: Shape, week: usize, product: usize) -> u64
-    requires { (slot_form f s.now ≡ Good f) × (week < f.weeks) × (product < f.products) }
-    ensures { (result ≡ sum_below f.customers (λ c. (slots_of f s.now).sales c product week)) × (result < 2 ^ 40) }
-{
-    customer_sum(s, f, SALES, product, week)
-}
-
-// Stores section 43's bytes at the start of what is lent.
-pub fn write_sales(out: &mut [u8], s: &[u8], f: Shape)
-    requires { (slot_form f s.now ≡ Good f) × (4 * (f.customers * f.products * f.weeks) ≤ length out.old) }
-    ensures { out.new
-        ≡ store out.old 0 (cube 4 f.customers f.products f.weeks (slots_of f s.now).sales) }
-{
-    copy_section(out, s, SALES, 4, volume(f.customers, f.products, f.weeks));
 }
 
 // Where the body in a place begins, of a slot file with `total` slots; after the last place, where the file ends.
+#[tactic(auto, using(contents::proofs::Entries::start_zero, contents::proofs::Entries::start_next, contents::proofs::Entries::start_below))]
 pub fn section_start(f: Shape, total: usize, place: usize) -> usize
     requires { (total ≤ 65025) × (place ≤ slot_kind.sections) }
     ensures { (result ≡ start (slot_lengths f total) place) × (result < 2 ^ 32) }
 {
     let lengths = lengths_of(f, total);
-    let mut at = 29;
-    let mut i = 0;
-    while i < place {
-        at += lengths[i] as usize;
-        i += 1;
-    }
-    at
+    contents::section_start(&lengths, place)
 }
 
 // The length of a slot file with `total` slots.
@@ -358,4 +431,128 @@ pub fn write_slot(out: &mut [u8], product: u64, minutes: u64)
 {
     write(out, 0, 1, product);
     write(out, 1, 2, minutes);
+}
+
+// ---- the same of bytes and a shape
+
+// The slots of the first week.
+pub fn first_row(s: &[u8], f: Shape) -> SlotRow
+    requires { slot_form f s.now ≡ Ok f }
+    ensures { RowOf f s.now result × (result.week ≡ 0) }
+{
+    let row = SlotFile { bytes: s, shape: f }.first_row();
+    SlotRow {
+        week: row.week,
+        first: row.first,
+        count: row.count,
+    }
+}
+
+// The slots of the week after a week.
+pub fn next_row(s: &[u8], f: Shape, row: SlotRow) -> SlotRow
+    requires { RowOf f s.now row × (row.week < f.weeks) }
+    ensures { RowOf f s.now result × (result.week ≡ row.week + 1) }
+{
+    let SlotRow { week, first, count } = row;
+    let next = WeekRow {
+        file: SlotFile { bytes: s, shape: f },
+        week,
+        first,
+        count,
+    }
+    .next();
+    SlotRow {
+        week: next.week,
+        first: next.first,
+        count: next.count,
+    }
+}
+
+// The product of slot k of a week.
+pub fn row_product(s: &[u8], f: Shape, row: SlotRow, k: usize) -> usize
+    requires { RowOf f s.now row × (row.week < f.weeks) × (k < row.count) }
+    ensures { (result ≡ (get_or ((slots_of f s.now).line.week row.week) k no_slot).product) × (result < f.products) }
+{
+    let SlotRow { week, first, count } = row;
+    WeekRow {
+        file: SlotFile { bytes: s, shape: f },
+        week,
+        first,
+        count,
+    }
+    .product(k)
+}
+
+// The minutes of slot k of a week.
+pub fn row_minutes(s: &[u8], f: Shape, row: SlotRow, k: usize) -> u64
+    requires { RowOf f s.now row × (row.week < f.weeks) × (k < row.count) }
+    ensures { (result ≡ (get_or ((slots_of f s.now).line.week row.week) k no_slot).minutes) × (result < 2 ^ 16) }
+{
+    let SlotRow { week, first, count } = row;
+    WeekRow {
+        file: SlotFile { bytes: s, shape: f },
+        week,
+        first,
+        count,
+    }
+    .minutes(k)
+}
+
+// Sections 41 and 42: the slots of a week, of at most 16 products.
+pub fn week_slots(s: &[u8], f: Shape, week: usize) -> WeekSlots
+    requires { (slot_form f s.now ≡ Ok f) × (week < f.weeks) × (f.products ≤ 16) }
+    ensures { (slots_in (take result.count result.slots) ≡ (slots_of f s.now).line.week week) × (result.count ≤ 16) }
+{
+    SlotFile { bytes: s, shape: f }.week_slots(week)
+}
+
+// Where a pair's sales stand, week by week.
+pub fn sales_row(s: &[u8], f: Shape, pair: usize) -> PairRow
+    requires { (slot_form f s.now ≡ Ok f) × (pair < f.customers * f.products) }
+    ensures { SalesRow f s.now result × (result.pair ≡ pair) }
+{
+    let row = SlotFile { bytes: s, shape: f }.sales_row(pair);
+    PairRow {
+        section: SALES,
+        pair: row.pair,
+        at: row.at,
+    }
+}
+
+// Section 43: a week's sales of its product to its customer.
+pub fn week_sales(s: &[u8], f: Shape, row: PairRow, week: usize) -> u64
+    requires { SalesRow f s.now row × (week < f.weeks) }
+    ensures { (result ≡ (slots_of f s.now).sales (row.pair / f.products) (row.pair % f.products) week) × (result < 2 ^ 32) }
+{
+    PairSales {
+        file: SlotFile { bytes: s, shape: f },
+        pair: row.pair,
+        at: row.at,
+    }
+    .sales(week)
+}
+
+// The same of a pair: customer times the count of products, plus product.
+pub fn pair_sales(s: &[u8], f: Shape, pair: usize, week: usize) -> u64
+    requires { (slot_form f s.now ≡ Ok f) × (pair < f.customers * f.products) × (week < f.weeks) }
+    ensures { (result ≡ (slots_of f s.now).sales (pair / f.products) (pair % f.products) week) × (result < 2 ^ 32) }
+{
+    SlotFile { bytes: s, shape: f }.pair_sales(pair, week)
+}
+
+// The grams of a product sold in a week, over all customers.
+pub fn sold(s: &[u8], f: Shape, week: usize, product: usize) -> u64
+    requires { (slot_form f s.now ≡ Ok f) × (week < f.weeks) × (product < f.products) }
+    ensures { (result ≡ sum_below f.customers (λ c. (slots_of f s.now).sales c product week)) × (result < 2 ^ 40) }
+{
+    SlotFile { bytes: s, shape: f }.sold(week, product)
+}
+
+// Stores section 43's bytes at the start of what is lent.
+pub fn write_sales(out: &mut [u8], s: &[u8], f: Shape)
+    requires { (slot_form f s.now ≡ Ok f) × (4 * (f.customers * f.products * f.weeks) ≤ length out.old) }
+    ensures { out.new
+        ≡ store out.old 0 (cube 4 f.customers f.products f.weeks (slots_of f s.now).sales) }
+{
+    SlotFile { bytes: s, shape: f }.write_sales(out);
 }

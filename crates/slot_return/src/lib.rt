@@ -5,24 +5,21 @@ ghost use Rattle.std.specs.Prelude.{◌≡◌, ◌*◌, ◌≤◌, ◌<◌, leng
 ghost use Rattle.mathematics.specs.Below.{sum_below};
 ghost use Rattle.numbers.specs.Number.{store};
 ghost use Rattle.contents.specs.File.{start};
-ghost use Rattle.sections.specs.declared.Form.TheVariants.{Good};
 ghost use Rattle.plan_file.specs.Form.{plan_form};
 ghost use Rattle.slot_file.specs.Form.{slot_lengths};
 ghost use Rattle.slot_file.specs.File.{slot_bytes, slot_file};
-ghost use Rattle.calls.specs.declared.Written.TheVariants.{Length};
 ghost use Rattle.calls.specs.Answer.{bytes, slot_answer, written_in, output_after};
 ghost use Rattle.passed_plan.specs.Shown.{week_count, week_slots, shown_in, Ordered};
 ghost use Rattle.slot_return.specs.Bodies.{body_of};
 
-use calls::{Written, refuse};
 use numbers::write;
-use passed_plan::{Judgement, judge_files, product_at, slot_total, week_count};
-use sections::Shape;
+use passed_plan::{judge_files, product_at, slot_total, week_count};
+use sections::{Refusal, Shape};
 use slot_file::{section_start, slot_length, write_contents, write_slot};
 
 // Stores section 41: the slots per week.
 fn write_counts(out: &mut [u8], plan: &[u8], f: Shape)
-    requires { (plan_form f plan.now ≡ Good f) × (f.weeks ≤ length out.old) }
+    requires { (plan_form f plan.now ≡ Ok f) × (f.weeks ≤ length out.old) }
     ensures { out.new ≡ store out.old 0 (body_of f plan.now 0) }
 {
     let weeks = numbers::as_usize(f.weeks);
@@ -81,17 +78,23 @@ fn write_file(out: &mut [u8], plan: &[u8], f: Shape, total: usize)
 }
 
 // Writes the file, and says its length.
-fn write_slots(out: &mut [u8], plan: &[u8], f: Shape, total: usize, size: usize) -> Written
+fn write_slots(
+    out: &mut [u8],
+    plan: &[u8],
+    f: Shape,
+    total: usize,
+    size: usize,
+) -> Result<usize, Refusal>
     requires { Ordered f plan.now × (total ≡ sum_below f.weeks (week_count f plan.now)) × (total ≤ 65025)
         × (start (slot_lengths f total) 3 ≤ length out.old) }
-    ensures { (result ≡ Length size) × (out.new ≡ store out.old 0 (slot_file f (shown_in f plan.now))) }
+    ensures { (result ≡ Ok size) × (out.new ≡ store out.old 0 (slot_file f (shown_in f plan.now))) }
 {
     write_file(out, plan, f, total);
-    Written::Length(size)
+    Ok(size)
 }
 
 // Returns the slots of a plan that has passed, where the output has room for them.
-fn return_slots(out: &mut [u8], plan: &[u8], f: Shape) -> Written
+fn return_slots(out: &mut [u8], plan: &[u8], f: Shape) -> Result<usize, Refusal>
     requires { Ordered f plan.now }
     ensures result { result ≡ written_in (bytes (slot_file f (shown_in f plan.now))) out.old }
     ensures output { out.new ≡ output_after (bytes (slot_file f (shown_in f plan.now))) out.old }
@@ -99,21 +102,16 @@ fn return_slots(out: &mut [u8], plan: &[u8], f: Shape) -> Written
     let total = slot_total(plan, f);
     let size = slot_length(f, total);
     if out.len() < size {
-        return refuse(out, 51);
+        return Err(Refusal::OutputLength);
     }
     write_slots(out, plan, f, total, size)
 }
 
 // The slots of a plan that passes, as a file at the start of the output: its length, or the number of the first refusal.
-pub fn slot_return(plant: &[u8], plan: &[u8], out: &mut [u8]) -> Written
+pub fn slot_return(plant: &[u8], plan: &[u8], out: &mut [u8]) -> Result<usize, Refusal>
     ensures result { result ≡ written_in (slot_answer plant.now plan.now) out.old }
     ensures output { out.new ≡ output_after (slot_answer plant.now plan.now) out.old }
 {
-    match judge_files(plant, plan) {
-        Judgement::Refused(n) => refuse(out, n),
-        Judgement::Passed(p) => {
-            let f = p.shape;
-            return_slots(out, plan, f)
-        }
-    }
+    let passed = judge_files(plant, plan)?;
+    return_slots(out, plan, passed.shape)
 }

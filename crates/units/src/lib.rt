@@ -6,11 +6,11 @@ ghost use Rattle.std.specs.Int.Signed.{mag};
 ghost use Rattle.sections.specs.Limits.{most_rate, most_unit_cost};
 
 // Time.
-#[derive(Clone, Copy)]
+#[derive(Clone, Copy, Debug, PartialEq, Eq, PartialOrd, Ord)]
 pub struct Minutes(pub u64);
 
 // Mass.
-#[derive(Clone, Copy)]
+#[derive(Clone, Copy, Debug, PartialEq, Eq, PartialOrd, Ord)]
 pub struct Grams(pub u64);
 
 // Mass of each product.
@@ -22,27 +22,27 @@ pub struct ProductGrams(pub [u64; 16]);
 pub struct PairGrams(pub [u32; 128]);
 
 // Grams a minute.
-#[derive(Clone, Copy)]
+#[derive(Clone, Copy, Debug, PartialEq, Eq, PartialOrd, Ord)]
 pub struct Rate(pub u64);
 
 // Money: what a changeover costs.
-#[derive(Clone, Copy)]
+#[derive(Clone, Copy, Debug, PartialEq, Eq, PartialOrd, Ord)]
 pub struct Cents(pub u64);
 
 // Money: cents a kilogram, which are thousandths of a cent a gram.
-#[derive(Clone, Copy)]
+#[derive(Clone, Copy, Debug, PartialEq, Eq, PartialOrd, Ord)]
 pub struct UnitCost(pub u64);
 
 // Money: thousandths of a cent, not below 0.
-#[derive(Clone, Copy)]
+#[derive(Clone, Copy, Debug, PartialEq, Eq, PartialOrd, Ord)]
 pub struct Thousandths(pub u64);
 
 // Money: profit, in thousandths of a cent.
-#[derive(Clone, Copy)]
+#[derive(Clone, Copy, Debug, PartialEq, Eq, PartialOrd, Ord)]
 pub struct Profit(pub i64);
 
 // What a changeover takes.
-#[derive(Clone, Copy)]
+#[derive(Clone, Copy, Debug, PartialEq, Eq)]
 pub struct Changeover {
     pub minutes: Minutes,
     pub cents: Cents,

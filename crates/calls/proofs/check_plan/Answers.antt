@@ -1,12 +1,13 @@
 -- `calls::check_plan` meets its contract. Assumes nothing.
-use mathlib.Core.Path.{sym}
+use borrow.Author.Rules.{rules}
+use mathlib.Core.Path.{sym, ◌∙◌}
 use Rattle.calls.specs.Check.{check_of}
 use Rattle.calls.proofs.check_plan.Goals as goal
 
-pub returns-in-Passed : goal.returns-in-Passed
+pub returns-in_err-passed : goal.returns-in_err-passed
 unfolding check_of
-returns-in-Passed c = rw (sym c.in-Passed.ensures)
+returns-in_err-passed c = rw (sym c.judge_files.ensures ∙ c.in_err-passed.was) (search rules)
 
-pub returns-in-Refused : goal.returns-in-Refused
+pub returns : goal.returns
 unfolding check_of
-returns-in-Refused c = rw (sym c.in-Refused.ensures)
+returns c = rw (sym c.judge_files.ensures ∙ c.in_ok-passed.was)

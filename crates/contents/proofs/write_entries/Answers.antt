@@ -1,43 +1,34 @@
--- `contents::write_entries` meets its contract: the loop has stored the entries below `i`. Assumes nothing.
-use borrow.Author.Rules.{rules}
+-- `contents::write_entries` meets its contract: the loop has stored the entries below `extent-index`. Assumes nothing.
+use Rattle.std.proofs.Common.{arith, ◌∙◌, ◌-◌, ◌+◌, ℕ, refl, sym, ap, length, get_or}
 use borrow.Rule.Slice.PartMut.{mid_of, put_mid}
-use native.Mathlib.Omega.{arith}
-use mathlib.Core.Path.{◌≡◌, refl, sym, ap, ◌∙◌}
-use Prim.Native.Nat.{ℕ, ◌-◌, ◌+◌}
-use lib.ListN.{length, get_or}
 use Rattle.numbers.specs.Number.{store}
 use Rattle.numbers.proofs.Store.{store_join, part_store}
 use Rattle.contents.specs.File.{entry_bytes}
 use Rattle.contents.proofs.Entries.{entries_length, entry_of, start_zero, start_next, start_below}
 use Rattle.contents.proofs.write_entries.Goals as goal
 
-pub loop-i-init : goal.loop-i-init
-loop-i-init c = (search rules, search rules, sym (start_zero c.args.lengths.now), search rules, refl, refl)
+pub loop-extent-init : goal.loop-extent-init
+loop-extent-init c = (omega arith, sym (start_zero c.args.lengths.now), refl, refl)
 
-pub overflow_add-offset-in-loop-i : goal.overflow_add-offset-in-loop-i
-overflow_add-offset-in-loop-i c =
-    let b = c.loop-i in
+pub overflow_add-offset-in-loop-extent : goal.overflow_add-offset-in-loop-extent
+overflow_add-offset-in-loop-extent c =
+    let i = c.loop-extent.extent-index in
     let l = c.args.lengths.now in
-    omega (arith, b.invariant.2, start_next l b.i, start_below l (b.i + 1) (omega arith), c.requires.0.offsets)
+    record { fits = omega (arith, start_next l i, start_below l (i + 1) (omega arith), c.requires.0.offsets) }
 
-pub loop-i-preserved : goal.loop-i-preserved
-loop-i-preserved c =
+pub loop-extent-preserved : goal.loop-extent-preserved
+loop-extent-preserved c =
     let a = c.args in
-    let b = c.loop-i in
+    let b = c.loop-extent in
+    let i = b.extent-index in
     let l = a.lengths.now in
-    let n = length b.out - b.p in
+    let n = length b.out - b.place in
     let whole =
-    ap (put_mid b.p n b.out)
-    (c.write_entry.ensures
-    ∙ ap (store (mid_of b.p n b.out) 0) (entry_of a.first l b.i b.number b.offset b.invariant.1 b.invariant.2))
-    ∙ part_store b.out b.p (entry_bytes a.first l b.i) (omega arith) in (
-      search rules,
+    ap (put_mid b.place n b.out)
+    (c.write_entry.ensures ∙ ap (store (mid_of b.place n b.out) 0) (entry_of a.first l i b.number b.offset b.invariant.0 b.invariant.1))
+    ∙ part_store b.out b.place (entry_bytes a.first l i) (omega arith) in (
       omega arith,
-      ap (λ (x : ℕ). x + get_or l b.i 0) b.invariant.2 ∙ sym (start_next l b.i),
+      ap (λ (x : ℕ). x + get_or l i 0) b.invariant.1 ∙ sym (start_next l i),
       omega arith,
-      search rules,
-      whole ∙ rw b.invariant.5 (store_join b.i (entry_bytes a.first l) a.out.now b.p (entries_length a.first l b.i ∙ sym b.invariant.3)),
+      whole ∙ rw b.invariant.3 (store_join i (entry_bytes a.first l) a.out.now b.place (entries_length a.first l i ∙ sym b.invariant.2)),
     )
-
-pub returns : goal.returns
-returns c = let e : c.loop-i.i ≡ length c.args.lengths.now = omega arith in cc

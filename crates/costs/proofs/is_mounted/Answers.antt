@@ -4,12 +4,12 @@ use mathlib.Core.Path.{sym, ◌∙◌}
 use Rattle.mathematics.proofs.Below.{is_same, is_other}
 use Rattle.costs.proofs.is_mounted.Goals as goal
 
-pub returns-then-as_usize-product : goal.returns-then-as_usize-product
-returns-then-as_usize-product c =
-    let told = c.in-Product.is in
-    (rw told (sym (is_same _ _ (sym c.as_usize.ensures.0 ∙ c.if-as_usize-product.true))), omega arith)
+pub returns-then-from-product : goal.returns-then-from-product
+returns-then-from-product c =
+    let told = c.in-Some.is in
+    (rw told (sym (is_same _ _ (sym c.from.ensures ∙ c.if-from-product.true))), omega arith)
 
-pub returns-else-as_usize-product : goal.returns-else-as_usize-product
-returns-else-as_usize-product c =
-    let told = c.in-Product.is in
-    (rw told (sym (is_other _ _ (λ e. c.if-as_usize-product.false (c.as_usize.ensures.0 ∙ e)))), omega arith)
+pub returns-else-from-product : goal.returns-else-from-product
+returns-else-from-product c =
+    let told = c.in-Some.is in
+    (rw told (sym (is_other _ _ (λ e. c.if-from-product.false (c.from.ensures ∙ e)))), omega arith)

@@ -6,30 +6,30 @@ use mathlib.Core.Logic.{inl, inr}
 use borrow.Author.Tests.{eq-eqb, ne_eqb}
 use native.Mathlib.Omega.{arith}
 use Rattle.sections.specs.Limits.{nothing_mounted}
-use Rattle.plant_file.specs.Plant.{plant_of}
-use Rattle.costs.specs.declared.Mounted.TheVariants.{Product}
+use Rattle.plant_file.specs.Accepted.{plant_in}
+use Rattle.std.specs.Prelude.{Some}
 use Rattle.costs.specs.Mounted.{opening_mounted}
 use Rattle.costs.proofs.opening_mounted.Goals as goal
 use Rattle.costs.proofs.opening_mounted.Goals.{Else-is_nothing}
 
 -- what is not nothing is a product
-product_below : (c : Else-is_nothing) → c.mounted-product.result < c.args.f.products
+product_below : (c : Else-is_nothing) → c.mounted-product.result < c.args.plant.shape.products
 product_below c = elim c.mounted-product.ensures.1 [ inl h ↦ h | inr h ↦ absurd (c.if-is_nothing.false (omega (arith, h))) ]
 
 pub returns-then-is_nothing : goal.returns-then-is_nothing
 unfolding opening_mounted
 returns-then-is_nothing c =
     let a = c.args in
-    let m = (plant_of a.f a.plant.now).line.mounted in
+    let m = (plant_in a.plant).line.mounted in
     (rw (eq-eqb m nothing_mounted (omega (arith, c.mounted-product.ensures.0))) refl, tt)
 
 pub returns : goal.returns
 unfolding opening_mounted
 returns c =
     let a = c.args in
-    let m = (plant_of a.f a.plant.now).line.mounted in
+    let m = (plant_in a.plant).line.mounted in
     let r = c.mounted-product.ensures.0 in (
-      rw (ne_eqb m nothing_mounted (λ e. c.if-is_nothing.false (omega (arith, r, e)))) (ap Product r),
+      rw (ne_eqb m nothing_mounted (λ e. c.if-is_nothing.false (omega (arith, r, e)))) (ap Some r),
       product_below (goal.at.returns c).Else-is_nothing,
     )
 

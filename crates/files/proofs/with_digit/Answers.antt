@@ -1,25 +1,29 @@
--- At each place it is known which tests the digit has passed.
-use Rattle.std.proofs.Common.{arith, ◌+◌, ◌*◌, ◌-◌, ◌^◌}
-use borrow.Author.Tests.{lt-ltb, le-ltb, le-leb, lt-leb}
+-- What is known of the digit and of the sum decides the number.
+use Rattle.std.proofs.Common.{arith, ◌≡◌, ◌<◌, ◌+◌, ◌*◌, ◌-◌, ◌^◌, ℕ, ◌∙◌, sym, refl}
+use borrow.Author.Tests.{lt-ltb, le-ltb}
+use Rattle.std.specs.Prelude.{Option, None, Some, cond, ltb}
+use Rattle.std.specs.Option.{SomeIff}
 use Rattle.files.specs.Numerals.{with_digit}
 use Rattle.files.proofs.with_digit.Goals as goal
 
-pub returns-then-digit-lt48 : goal.returns-then-digit-lt48
-unfolding with_digit
-returns-then-digit-lt48 c = rw (lt-leb 48 c.args.digit (omega arith))
+-- a sum that is checked, as the definition tests it
+some_if : (r : Option ℕ) (n most : ℕ) → SomeIff r (n < most) n → r ≡ cond (ltb n most) (Some n) None
+some_if None n most h = rw (le-ltb n most (omega (arith, h))) refl
+some_if (Some m) n most h = rw (lt-ltb n most h.0, h.1) refl
 
-pub returns-then-digit-gt57 : goal.returns-then-digit-gt57
+pub returns-then-not-is_ascii_digit : goal.returns-then-not-is_ascii_digit
 unfolding with_digit
-returns-then-digit-gt57 c = let b = c.args.digit in rw (le-leb 48 b (omega arith), lt-leb b 57 (omega arith))
+returns-then-not-is_ascii_digit c = rw (sym c.is_ascii_digit.ensures.value ∙ c.if-not-is_ascii_digit.true) refl
 
-pub returns-then-value-n : goal.returns-then-value-n
+pub returns-in_err-checked_mul : goal.returns-in_err-checked_mul
 unfolding with_digit
-returns-then-value-n c =
+returns-in_err-checked_mul c =
     let a = c.args in
-    rw (le-leb 48 a.digit (omega arith), le-leb a.digit 57 (omega arith), le-ltb (a.n * 10 + (a.digit - 48)) (2 ^ 64) (omega arith))
+    let most = le-ltb (a.n * 10 + (a.digit - 48)) (2 ^ 64) (omega (arith, c.in_err-checked_mul.ensures)) in
+    rw (sym c.is_ascii_digit.ensures.value ∙ c.if-not-is_ascii_digit.false, most) c.from_residual.ensures
 
 pub returns : goal.returns
 unfolding with_digit
 returns c =
-    let a = c.args in
-    rw (le-leb 48 a.digit (omega arith), le-leb a.digit 57 (omega arith), lt-ltb (a.n * 10 + (a.digit - 48)) (2 ^ 64) (omega arith))
+    rw (sym c.is_ascii_digit.ensures.value ∙ c.if-not-is_ascii_digit.false, ← c.from.ensures, ← c.in_ok-checked_mul.ensures.1)
+    (some_if _ _ _ c.checked_add.ensures)

@@ -1,22 +1,13 @@
 -- `passed_plan::judge_files` meets its contract. Assumes nothing.
-use mathlib.Core.Path.{◌≡◌, sym}
-use Rattle.sections.specs.declared.Form.TheVariants.{Good}
-use Rattle.plant_file.specs.Form.{plant_form}
+use borrow.Author.Rules.{rules}
+use mathlib.Core.Path.{sym, ◌∙◌}
 use Rattle.passed_plan.specs.Judgement.{judgement_of}
 use Rattle.passed_plan.proofs.judge_files.Goals as goal
-use Rattle.passed_plan.proofs.judge_files.Goals.{In-Good}
 
-plant_good : (c : In-Good) → plant_form c.args.plant.now ≡ Good c.in-Good.f
-plant_good c = sym c.in-Good.ensures
-
-pub returns-in-Refused : goal.returns-in-Refused
+pub returns-in_err-f : goal.returns-in_err-f
 unfolding judgement_of
-returns-in-Refused c = rw (sym c.in-Refused.ensures)
+returns-in_err-f c = rw (sym c.plant_form.ensures ∙ c.in_err-f.was) (search rules)
 
-pub returns-in-Good : goal.returns-in-Good
+pub returns : goal.returns
 unfolding judgement_of
-returns-in-Good c = rw (plant_good (goal.at.returns-in-Good c).In-Good) c.judge_plan.ensures
-
-pub judge_plan-requires : goal.judge_plan-requires
-judge_plan-requires c =
-    plant_good (goal.at.judge_plan-requires c).In-Good
+returns c = rw (sym c.plant_form.ensures ∙ c.in_ok-f.was) c.judge_plan.ensures

@@ -7,7 +7,7 @@ use mathlib.Core.Bool.{cond}
 use lib.Dec.{eqb}
 use Rattle.plant_file.specs.Plant.{plant_of}
 use Rattle.plan_file.specs.Plan.{plan_of}
-use Rattle.costs.specs.declared.Mounted.TheVariants.{Product}
+use Rattle.std.specs.Prelude.{Some}
 use Rattle.rules.specs.Rules.{mounted_after, mounted_before}
 use Rattle.model.specs.RunTables.{mounted_of}
 use Rattle.model.proofs.Changeovers.{mounted_of_below}
@@ -19,7 +19,7 @@ loop-product-preserved c =
     let i = c.loop-product in (
       search rules,
       rw add-one (c.chosen-found.ensures
-          ∙ (λ u. cond (eqb (c.mounted_after-mark.ensures.0 u) 1) (Product i.product) (i.invariant.1 u))),
+          ∙ (λ u. cond (eqb (c.mounted_after-mark.ensures.0 u) 1) (Some i.product) (i.invariant.1 u))),
     )
 
 pub returns : goal.returns

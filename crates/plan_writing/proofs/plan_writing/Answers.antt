@@ -1,78 +1,117 @@
 -- `plan_writing::plan_writing` meets its contract: at each place it is known what the plant's rows, the slots' rows and the run have said.
 -- Assumes nothing.
-use mathlib.Core.Path.{◌≡◌, sym, ap, ◌∙◌}
+use borrow.Author.Rules.{rules}
+use mathlib.Core.Path.{◌≡◌, refl, sym, ap, ◌∙◌}
 use mathlib.Core.List.{List}
 use Prim.Native.Nat.{ℕ}
-use Rattle.numbers.specs.Signed.{unsigned_of}
+use Rattle.std.proofs.Common.{Bor}
 use Rattle.sections.specs.declared.Shape.{Shape}
-use Rattle.sections.specs.declared.Form.TheVariants.{Good}
+use Rattle.std.specs.Prelude.{Ok}
 use Rattle.plant_file.specs.Plant.{plant_of}
 use Rattle.plan_file.specs.File.{plan_file}
 use Rattle.slot_file.specs.Slots.{slots_of}
 use Rattle.slot_file.specs.Form.{slot_form}
-use Rattle.slot_file.proofs.SlotReads.{slot_shape}
-use Rattle.machine.specs.declared.Step.{Step}
+use Rattle.machine.specs.Run.{run}
+use Rattle.std.proofs.lemmas.Result.{err_from_is_err_and}
+use Rattle.machine.specs.State.{Step}
 use Rattle.model.specs.RunTables.{run_tables}
-use Rattle.calls.specs.Answer.{bytes, plan_answer}
+use Rattle.calls.specs.Answer.{Answer, bytes, plan_answer, written_in, output_after}
 use Rattle.calls.proofs.Output.{refused_as}
 use Rattle.plan_writing.specs.Ran.{Ran}
 use Rattle.plan_writing.proofs.RunWeeks.{profit_is}
 use Rattle.plan_writing.proofs.plan_writing.Goals as goal
-use Rattle.plan_writing.proofs.plan_writing.Goals.{In-Continues}
+use Rattle.plan_writing.proofs.plan_writing.Goals.{In_ok-slots, In_ok-state}
 
--- the slots are for the plant's shape
-slots_good : (f g : Shape) (s : List ℕ) → Good g ≡ slot_form f s → slot_form f s ≡ Good f
-slots_good f g s h = let e = sym h in e ∙ ap Good (slot_shape _ _ _ e)
+-- what holds for one shape holds for the same
+good_as : {f g : Shape} (slots : List ℕ) → g ≡ f → slot_form g slots ≡ Ok g → slot_form f slots ≡ Ok f
+good_as slots e h = rw e at h
+
+ran_as : {f g : Shape} {plant slots : List ℕ} → g ≡ f → Ran f plant slots → Ran g plant slots
+ran_as e h = rw e h
+
+module _ (c : In_ok-slots) where
+  abbrev f : Shape
+  f = c.in_ok-plant.plant.shape
+
+  abbrev plant : List ℕ
+  plant = c.in_ok-plant.plant.bytes.now
+
+  abbrev slots : List ℕ
+  slots = c.in_ok-slots.slots.bytes.now
+
+  -- the slots are good for the plant's shape
+  same_shape : c.in_ok-slots.slots.shape ≡ f
+  same_shape = c.in_ok-slots.ensures.1
+
+  slots_good : slot_form f slots ≡ Ok f
+  slots_good = good_as slots same_shape c.in_ok-slots.slots.accepted
+
+  -- the files have the bytes of the call
+  same_plant : plant ≡ c.args.plant.now
+  same_plant = c.in_ok-plant.ensures.0
+
+  same_slots : slots ≡ c.args.slots.now
+  same_slots = ap (λ (b : Bor (List ℕ)). b.now) c.in_ok-slots.ensures.0
+
+  same_answer : plan_answer plant slots ≡ plan_answer c.args.plant.now c.args.slots.now
+  same_answer = λ u. plan_answer (same_plant u) (same_slots u)
 
 -- both files are good, and the run never stops
-ran : (c : In-Continues) → Ran c.in-Good.f c.args.plant.now c.args.slots.now
+ran : (c : In_ok-state) → Ran c.in_ok-plant.plant.shape c.in_ok-plant.plant.bytes.now c.in_ok-slots.slots.bytes.now
 ran c =
     record {
-      plant_good = sym c.in-Good.ensures;
-      slots_good = slots_good c.in-Good.f c.in-Good-slot_form.field-0 c.args.slots.now c.in-Good-slot_form.ensures;
-      continued = sym (ap (λ (r : Step). r.outcome) c.run-r.ensures) ∙ c.in-Continues.is;
+      plant_good = c.in_ok-plant.plant.accepted;
+      slots_good = good_as _ c.in_ok-slots.ensures.1 c.in_ok-slots.slots.accepted;
+      continued = sym (ap (λ (r : Step). r.outcome) c.in_ok-state.ensures);
     }
 
-pub run-r-requires : goal.run-r-requires
-run-r-requires c =
-    (sym c.in-Good.ensures, slots_good c.in-Good.f c.in-Good-slot_form.field-0 c.args.slots.now c.in-Good-slot_form.ensures)
-
-pub write_tables-requires : goal.write_tables-requires
-write_tables-requires c =
-    let h = ran (goal.at.write_tables-requires c).In-Continues in
-    let profit = ap (λ (r : Step). r.state.profit.0) c.run-r.ensures ∙ profit_is c.in-Good.f c.args.plant.now c.args.slots.now h in
-    (h, c.profit_of.ensures ∙ ap unsigned_of profit)
-
-pub returns-in-Refused : goal.returns-in-Refused
+-- ---- the returns: a plant, slots or a run that is refused, and the tables
+pub returns-in_err-plant : goal.returns-in_err-plant
 unfolding plan_answer
-returns-in-Refused c =
-    let e = sym c.in-Refused.ensures in
-    let r = refused_as {a = plan_answer c.args.plant.now c.args.slots.now} (rw e) c.refuse.ensures in
+returns-in_err-plant c =
+    let r = refused_as {n = c.in_err-plant.field-0.0} (rw c.in_err-plant.ensures) (search rules, refl) in
     record { result = r.0; output = r.1 }
 
-pub returns-in-Refused-slot_form : goal.returns-in-Refused-slot_form
+pub returns-in_err-slots : goal.returns-in_err-slots
 unfolding plan_answer
-returns-in-Refused-slot_form c =
-    let p = sym c.in-Good.ensures in
-    let e = sym c.in-Refused-slot_form.ensures in
-    let r = refused_as {a = plan_answer c.args.plant.now c.args.slots.now} (rw (p, e)) c.refuse-in-Refused-slot_form.ensures in
+returns-in_err-slots c =
+    let r = refused_as {n = c.in_err-slots.field-0.0} (rw (c.in_ok-plant.ensures.1, c.in_err-slots.ensures)) (search rules, refl) in
     record { result = r.0; output = r.1 }
 
-pub returns-in-Stops : goal.returns-in-Stops
-unfolding plan_answer
-returns-in-Stops c =
-    let p = sym c.in-Good.ensures in
-    let q = slots_good c.in-Good.f c.in-Good-slot_form.field-0 c.args.slots.now c.in-Good-slot_form.ensures in
-    let e = sym (ap (λ (r : Step). r.outcome) c.run-r.ensures) ∙ c.in-Stops.is in
-    let r = refused_as {a = plan_answer c.args.plant.now c.args.slots.now} (rw (p, q, e)) c.refuse-in-Stops.ensures in
-    record { result = r.0; output = r.1 }
+pub invariant_of-run : goal.invariant_of-run
+invariant_of-run c = record { same = c.in_ok-slots.ensures.1 }
 
-pub returns-in-Continues : goal.returns-in-Continues
+pub returns-in_err-state : goal.returns-in_err-state
 unfolding plan_answer
-returns-in-Continues c =
-    let f = c.in-Good.f in
-    let a = c.args in
-    let h = ran (goal.at.returns-in-Continues c).In-Continues in
-    let e : plan_answer a.plant.now a.slots.now ≡ bytes (plan_file f (run_tables (plant_of f a.plant.now) (slots_of f a.slots.now))) =
-    rw (h.plant_good, h.slots_good, h.continued) in
-    record { result = rw e c.write_tables.ensures.result; output = rw e c.write_tables.ensures.output }
+returns-in_err-state c =
+    let d = (goal.at.returns-in_err-state c).In_ok-slots in
+    let e = sym (ap (λ (r : Step). r.outcome) c.in_err-state.ensures) in
+    let r =
+    refused_as {n = c.in_err-state.field-0.0.refusal} (sym (same_answer d) ∙ rw (c.in_ok-plant.plant.accepted, slots_good d, e)) (search rules, refl) in
+    let n = err_from_is_err_and c.from_residual-in_err-state.result c.from_residual-in_err-state.ensures.1 in
+    record { result = rw (n.1, n.2) r.0; output = r.1 }
+
+pub invariant_of-write_tables : goal.invariant_of-write_tables
+invariant_of-write_tables c =
+    let d = (goal.at.invariant_of-write_tables c).In_ok-slots in
+    let h = ran (goal.at.invariant_of-write_tables c).In_ok-state in
+    let shape = same_shape d in
+    let profit = ap (λ (r : Step). r.state.profit.0) c.in_ok-state.ensures ∙ profit_is _ _ _ h in
+    record {
+      ran = ran_as shape h;
+      earned = profit ∙ ap (λ (g : Shape). (run_tables (plant_of g (plant d)) (slots_of g (slots d))).profit) (sym shape);
+    }
+
+pub returns : goal.returns
+unfolding plan_answer
+returns c =
+    let d = (goal.at.returns c).In_ok-slots in
+    let out = c.args.out.now in
+    let h = ran (goal.at.returns c).In_ok-state in
+    let tables : Shape → Answer = λ g. bytes (plan_file g (run_tables (plant_of g (plant d)) (slots_of g (slots d)))) in
+    let answer : plan_answer (plant d) (slots d) ≡ tables (f d) = rw (h.plant_good, h.slots_good, h.continued) in
+    let written = ap tables (same_shape d) ∙ sym answer ∙ same_answer d in
+    record {
+      result = c.write_tables.ensures.result ∙ ap (λ (a : Answer). written_in a out) written;
+      output = c.write_tables.ensures.output ∙ ap (λ (a : Answer). output_after a out) written;
+    }

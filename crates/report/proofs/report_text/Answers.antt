@@ -2,10 +2,9 @@
 use native.Mathlib.Omega.{arith}
 use mathlib.Core.Path.{◌≡◌, sym}
 use mathlib.Core.List.{append-nil}
-use Rattle.passed_plan.specs.declared.Judgement.TheVariants.{Passed}
+use Rattle.std.specs.Prelude.{Err, Ok}
 use Rattle.passed_plan.specs.Judgement.{judgement_of}
 use Rattle.passed_plan.proofs.PassedPlan.{judged_passing}
-use Rattle.calls.specs.declared.Check.TheVariants as check
 use Rattle.calls.specs.Check.{check_of}
 use Rattle.report.specs.Report.{first_line, report_text}
 use Rattle.report.proofs.StoredText.{stored_both}
@@ -16,10 +15,10 @@ use Rattle.report.proofs.report_text.Goals.{After-write_first-at}
 
 -- the plan passes
 passed : (c : After-write_first-at) → let a = c.args in
-    judgement_of a.plant.now a.plan.now ≡ Passed c.in-Passed.p
-passed c = sym c.in-Passed.ensures
+    judgement_of a.plant.now a.plan.now ≡ Ok c.in-Ok.passed
+passed c = sym c.in-Ok.ensures
 
-facts : (c : After-write_first-at) → PassedText c.in-Passed.p.shape c.args.plant.now c.args.plan.now
+facts : (c : After-write_first-at) → PassedText c.in-Ok.passed.shape c.args.plant.now c.args.plan.now
 facts c =
     let a = c.args in
     passed_text _ a.plant.now a.plan.now _ (λ i. (c.type_inv.plan i).fits)
@@ -27,38 +26,38 @@ facts c =
 
 pub write_weeks-requires : goal.write_weeks-requires
 write_weeks-requires c =
-    let profit = c.in-Passed.p.profit in (
+    let profit = c.in-Ok.passed.profit in (
       (facts (goal.at.write_weeks-requires c).After-write_first-at).ready,
       omega (
         arith,
         (facts (goal.at.write_weeks-requires c).After-write_first-at).most,
         c.write_first-at.ensures.end,
-        first_most (check.Passed profit),
+        first_most (Ok profit),
       ),
     )
 
-pub returns-in-Refused : goal.returns-in-Refused
+pub returns-in-Err : goal.returns-in-Err
 unfolding report_text check_of
-returns-in-Refused c =
-    let n = c.in-Refused.n in
-    let e = sym c.in-Refused.ensures in
+returns-in-Err c =
+    let n = c.in-Err.refusal in
+    let e = sym c.in-Err.ensures in
     let first = c.write_first.ensures in
-    rw (e, append-nil (first_line (check.Refused n))) (omega (arith, first.end, first_most (check.Refused n)), omega (arith, first.end), first.output)
+    rw (e, append-nil (first_line (Err n))) (omega (arith, first.end, first_most (Err n)), omega (arith, first.end), first.output)
 
-pub returns-in-Passed : goal.returns-in-Passed
+pub returns-in-Ok : goal.returns-in-Ok
 unfolding report_text check_of
-returns-in-Passed c =
+returns-in-Ok c =
     let a = c.args in
-    let profit = c.in-Passed.p.profit in
+    let profit = c.in-Ok.passed.profit in
     let first = c.write_first-at.ensures in
     let both = stored_both {s = a.out.now} (omega arith) first c.write_weeks.ensures in
-    rw (passed (goal.at.returns-in-Passed c).After-write_first-at, ← (facts (goal.at.returns-in-Passed c).After-write_first-at).lines) (
+    rw (passed (goal.at.returns-in-Ok c).After-write_first-at, ← (facts (goal.at.returns-in-Ok c).After-write_first-at).lines) (
       omega (
         arith,
         c.write_weeks.ensures.end,
-        (facts (goal.at.returns-in-Passed c).After-write_first-at).most,
+        (facts (goal.at.returns-in-Ok c).After-write_first-at).most,
         first.end,
-        first_most (check.Passed profit),
+        first_most (Ok profit),
       ),
       omega (arith, both.end),
       both.output,

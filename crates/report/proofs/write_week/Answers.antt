@@ -5,7 +5,7 @@ use mathlib.Core.Path.{◌≡◌, refl, ap, ◌∙◌}
 use mathlib.Core.List.{List, [], ◌∷◌, ◌++◌}
 use Prim.Native.Nat.{ℕ, ◌+◌, ◌<◌, ◌^◌}
 use lib.ListN.{length, length-append}
-use Rattle.costs.specs.declared.Mounted.TheVariants.{Product}
+use Rattle.std.specs.Prelude.{Some}
 use Rattle.report.specs.Text.{line}
 use Rattle.report.proofs.StoredText.{rest_start, rest_step, rest_end}
 use Rattle.report.proofs.WeekText.{few, lines_from, lines_all, lines_next, lines_end}
@@ -39,7 +39,7 @@ later c =
     let b = c.loop-k in
     let a = c.args in
     let end = b.clock + c.changeover_to-over.result.minutes.0 + c.minutes-minutes.result in
-    lines_from a.f a.plant.now a.plan.now a.week (Product c.product_at-product.result) end (b.k + 1)
+    lines_from a.f a.plant.now a.plan.now a.week (Some c.product_at-product.result) end (b.k + 1)
 
 next : (c : After-changeover_to-over) → let a = c.args in let b = c.loop-k in
     lines_from a.f a.plant.now a.plan.now a.week b.mounted b.clock b.k ≡ here c ++ later c
@@ -103,7 +103,7 @@ minutes-minutes-requires c =
 
 pub changeover_to-over-requires : goal.changeover_to-over-requires
 changeover_to-over-requires c =
-    (search rules, c.loop-k.invariant.1, known (goal.at.changeover_to-over-requires c).After-product_at-product)
+    (c.loop-k.invariant.1, known (goal.at.changeover_to-over-requires c).After-product_at-product)
 
 pub overflow_add-start : goal.overflow_add-start
 overflow_add-start c =

@@ -1,5 +1,6 @@
 -- `rolling::roll_passed` meets its contract: at each place it is known which tests have passed. Assumes nothing.
-use mathlib.Core.Path.{◌≡◌, sym, ◌∙◌}
+use borrow.Author.Rules.{rules}
+use mathlib.Core.Path.{◌≡◌, refl, sym, ◌∙◌}
 use mathlib.Core.Bool.{true}
 use Prim.Native.Nat.{◌≤◌, ◌<◌}
 use Rattle.plant_file.specs.File.{plant_file}
@@ -10,6 +11,7 @@ use Rattle.calls.specs.Answer.{bytes, refused, rolled_in, roll_passed}
 use Rattle.calls.proofs.Output.{refused_as}
 use Rattle.rolling.proofs.roll_passed.Goals as goal
 use Rattle.rolling.proofs.roll_passed.Goals.{Else-not-has_weeks_left}
+use Rattle.sections.specs.declared.Refusal.TheVariants as refusal
 
 -- weeks are left
 left : (c : Else-not-has_weeks_left) → let a = c.args in weeks_left a.f.weeks a.k ≡ true
@@ -23,8 +25,8 @@ unfolding roll_passed
 returns-then-not-has_weeks_left c =
     let a = c.args in
     let e = sym c.has_weeks_left.ensures ∙ c.if-not-has_weeks_left.true in
-    let s : roll_passed a.f a.plant.now a.plan.now a.k a.rates.now ≡ refused 61 = rw e in
-    let r = refused_as s c.refuse.ensures in
+    let s : roll_passed a.f a.plant.now a.plan.now a.k a.rates.now ≡ refused refusal.WeeksLeft = rw e in
+    let r = refused_as s (refl, refl) in
     record { result = r.0; output = r.1 }
 
 pub is_backlog_carried-requires : goal.is_backlog_carried-requires
@@ -39,28 +41,26 @@ returns-then-not-is_backlog_carried c =
     let a = c.args in
     let l = left (goal.at.returns-then-not-is_backlog_carried c).Else-not-has_weeks_left in
     let e = sym c.is_backlog_carried.ensures ∙ c.if-not-is_backlog_carried.true in
-    let s : roll_passed a.f a.plant.now a.plan.now a.k a.rates.now ≡ refused 62 = rw (l, sym c.in-Good.ensures, e) in
-    let r = refused_as s c.refuse-then-not-is_backlog_carried.ensures in
+    let s : roll_passed a.f a.plant.now a.plan.now a.k a.rates.now ≡ refused refusal.OpeningBacklog = rw (l, sym c.rates_form.ensures ∙ c.in_ok-rates_form.was, e) in
+    let r = refused_as s (refl, refl) in
     record { result = r.0; output = r.1 }
 
-pub returns-in-Refused : goal.returns-in-Refused
+pub returns-in_err-rates_form : goal.returns-in_err-rates_form
 unfolding roll_passed
-returns-in-Refused c =
-    let a = c.args in
-    let l = left (goal.at.returns-in-Refused c).Else-not-has_weeks_left in
-    let s : roll_passed a.f a.plant.now a.plan.now a.k a.rates.now ≡ refused c.in-Refused.n = rw (l, sym c.in-Refused.ensures) in
-    let r = refused_as s c.refuse-in-Refused.ensures in
+returns-in_err-rates_form c =
+    let l = left (goal.at.returns-in_err-rates_form c).Else-not-has_weeks_left in
+    let r = refused_as {n = c.in_err-rates_form.field-0.0} (rw (l, sym c.rates_form.ensures ∙ c.in_err-rates_form.was)) (search rules, refl) in
     record { result = r.0; output = r.1 }
 
-pub returns-else-not-is_backlog_carried : goal.returns-else-not-is_backlog_carried
+pub returns : goal.returns
 unfolding roll_passed
-returns-else-not-is_backlog_carried c =
+returns c =
     let a = c.args in
-    let l = left (goal.at.returns-else-not-is_backlog_carried c).Else-not-has_weeks_left in
+    let l = left (goal.at.returns c).Else-not-has_weeks_left in
     let carried = sym c.is_backlog_carried.ensures ∙ c.if-not-is_backlog_carried.false in
     let e : roll_passed a.f a.plant.now a.plan.now a.k a.rates.now
     ≡ bytes (plant_file (rolled_in a.f a.plant.now a.plan.now a.k a.rates.now)) =
-    rw (l, sym c.in-Good.ensures, carried) in
+    rw (l, sym c.rates_form.ensures ∙ c.in_ok-rates_form.was, carried) in
     let r = c.roll_rates.ensures in
     record { result = rw e r.result; output = rw e r.output }
 
@@ -73,5 +73,5 @@ roll_rates-requires c =
       plan_good = c.requires.1;
       some = w.0;
       left = w.1;
-      listed = (rates_good a.f _ a.rates.now (sym c.in-Good.ensures)).0;
+      listed = (rates_good a.f _ a.rates.now (sym c.rates_form.ensures ∙ c.in_ok-rates_form.was)).0;
     }

@@ -1,6 +1,6 @@
 -- `rolling::roll_rates` meets its contract. Assumes nothing.
 use native.Mathlib.Omega.{arith}
-use mathlib.Core.Path.{◌≡◌, sym, ap, ◌∙◌}
+use mathlib.Core.Path.{◌≡◌, refl, sym, ap, ◌∙◌}
 use mathlib.Core.List.{List}
 use Prim.Native.Nat.{ℕ}
 use lib.ListN.{length}
@@ -38,7 +38,7 @@ module _ (c : After-plant_length-size) where
 pub returns-then-out-size : goal.returns-then-out-size
 returns-then-out-size c =
     let d = (goal.at.returns-then-out-size c).After-plant_length-size in
-    let e = short_as (file d) c.args.out.now (omega (arith, length_is d)) c.refuse.ensures in
+    let e = short_as (file d) c.args.out.now (omega (arith, length_is d)) (refl, refl) in
     record { result = e.0; output = e.1 }
 
 pub returns : goal.returns

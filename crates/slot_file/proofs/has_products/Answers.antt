@@ -1,19 +1,14 @@
--- `slot_file::has_products` meets its contract: the loop has tried the slots below `j`. Assumes nothing.
+-- `slot_file::has_products` meets its contract. Assumes nothing.
 use borrow.Author.Rules.{rules}
-use native.Mathlib.Omega.{arith}
-use mathlib.Core.Path.{◌≡◌, ◌∙◌}
-use native.Mathlib.Numerals.{add-one}
+use borrow.Author.Tests.{tests}
+use mathlib.Core.Path.{refl}
+use lib.Dec.{ltb}
+use Rattle.mathematics.proofs.Ranges.{all_in_range}
 use Rattle.slot_file.specs.Slots.{slot_at}
-use Rattle.slot_file.proofs.SlotPlaces.{product_at_lem}
 use Rattle.slot_file.proofs.has_products.Goals as goal
 
-pub loop-j-preserved : goal.loop-j-preserved
-loop-j-preserved c =
-    let s = c.args.s.now in
-    let before = c.loop-j in
-    let at = c.slot_place-at.ensures.0 in
-    let e : c.wide.result ≡ (slot_at s before.j).product = c.wide.ensures.0 ∙ product_at_lem s before.j _ at in
-    (search rules, rw (add-one, ← e, ← before.invariant.1) c.and-ok.ensures)
-
 pub returns : goal.returns
-returns c = let e : c.loop-j.j ≡ c.args.total = omega arith in cc
+unfolding slot_at
+returns c =
+    let a = c.args in
+    all_in_range (λ j. ltb (slot_at a.s.now j).product a.n) a.total _ _ _ c.all.ensures.ran refl (λ x b q k. search (rules, tests))

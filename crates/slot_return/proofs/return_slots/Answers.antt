@@ -1,6 +1,6 @@
 -- `slot_return::return_slots` meets its contract. Assumes nothing.
 use native.Mathlib.Omega.{arith}
-use mathlib.Core.Path.{◌≡◌, sym, ◌∙◌}
+use mathlib.Core.Path.{◌≡◌, refl, sym, ◌∙◌}
 use mathlib.Core.List.{List}
 use Prim.Native.Nat.{ℕ}
 use lib.ListN.{length}
@@ -25,7 +25,7 @@ pub returns-then-out-size : goal.returns-then-out-size
 returns-then-out-size c =
     let a = c.args in
     let e = size (goal.at.returns-then-out-size c).After-slot_length-size in
-    let r = short_as (file a.f a.plan.now) a.out.now (omega (arith, e)) c.refuse.ensures in
+    let r = short_as (file a.f a.plan.now) a.out.now (omega (arith, e)) (refl, refl) in
     record { result = r.0; output = r.1 }
 
 pub returns : goal.returns

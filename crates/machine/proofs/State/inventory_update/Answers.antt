@@ -1,109 +1,111 @@
 -- `machine::State::inventory_update` meets its contract: the loop has tried, stored and added the products below `product`. Assumes nothing.
-use Prim.Native.Nat.{◌+◌, ◌*◌, ◌<◌, ◌≤◌}
-use mathlib.Core.Path.{◌≡◌, refl, ◌∙◌}
+use Prim.Native.Nat.{◌+◌, ◌*◌, ◌-◌, ◌<◌, ◌≤◌}
+use mathlib.Core.Path.{◌≡◌, refl, sym, ◌∙◌}
+use mathlib.Core.Bool.{true, false}
 use borrow.Author.Rules.{rules}
+use borrow.Author.Tests.{tests}
 use native.Mathlib.Omega.{arith}
 use native.Mathlib.Numerals.{add-one}
 use lib.ListN.{length, get_or}
+use Rattle.mathematics.proofs.Below.{all_fails}
 use Rattle.sections.specs.Limits.{most_rate, most_storage, most_week_minutes}
-use Rattle.plant_file.specs.Plant.{plant_of}
+use Rattle.plant_file.specs.Accepted.{plant_in}
 use Rattle.machine.specs.State.{inventory_of}
-use Rattle.machine.specs.Files.{week_of_files}
-use Rattle.machine.proofs.Plants.{counts}
-use Rattle.machine.proofs.ProductTables.{inventory_at, in_stock_all, inventory_all, kept_all, charge_all}
+use Rattle.machine.specs.Machine.{sold_of, sales_in_stock, inventory_after, storage_kept}
+use Rattle.machine.specs.Input.{week_in}
+use Rattle.machine.proofs.Plants.{few}
+use Rattle.machine.proofs.ProductTables.{inventory_at, in_stock_at, in_stock_all, inventory_all, kept_all, charge_all}
 use Rattle.machine.proofs.Stores.{cell_next, cell_stored}
 use Rattle.machine.proofs.State.inventory_update.Goals as goal
-use Rattle.machine.proofs.State.inventory_update.Goals.{After-less-left, In-loop-product}
+use Rattle.machine.proofs.State.inventory_update.Goals.{After-sold-sold, then-kept, else-kept}
 
--- the product is one of the plant's, and has a place in the array
-known : (c : In-loop-product) → c.loop-product.product < c.args.f.products
-known c = omega (arith, c.loop-product-test.true, c.as_usize-products.ensures.0)
+module _ (c : After-sold-sold) where
+  -- the product is one of the plant's, and its inventory is as it was
+  known : c.loop-product.product < c.args.input.plant.shape.products
+  known = omega (arith, c.from-product-end.ensures)
 
-place : (c : In-loop-product) → c.loop-product.product + 1 ≤ 16
-place c = omega (arith, known c, (counts _ _ c.requires.0.plant_good).products)
+  same : get_or c.loop-product.inventory c.loop-product.product 0 ≡ get_or c.args.self.inventory c.loop-product.product 0
+  same = cell_next _ _ _ _ c.loop-product.invariant.0
 
--- its inventory is as it was
-same : (c : In-loop-product) → let start = c in
-    get_or c.loop-product.inventory c.loop-product.product 0 ≡ get_or start.args.self.inventory c.loop-product.product 0
-same c = cell_next _ _ _ _ c.loop-product.invariant.1
+  -- what is sold of it
+  sold : c.sold-sold.result ≡ sold_of (plant_in c.args.input.plant) (week_in c.args.input c.args.week) c.loop-product.product
+  sold = rw c.args.input.same at c.sold-sold.ensures.0
 
--- what is left of it
-left : (c : After-less-left) → let turn = c.loop-product in
-    let a = c.args in
-    c.less-left.result.0 ≡ inventory_at (plant_of a.f a.plant.now) (week_of_files a.f a.plant.now a.slots.now a.week) turn.product
-    (get_or a.self.inventory turn.product 0)
-left c =
-    rw (c.less-left.ensures, cell_next _ _ _ _ c.loop-product.invariant.1, c.sold.ensures.0)
+  -- what is left
+  left : get_or c.loop-product.inventory c.loop-product.product 0 - c.sold-sold.result
+      ≡ inventory_at (plant_in c.args.input.plant) (week_in c.args.input c.args.week) c.loop-product.product
+      (get_or c.args.self.inventory c.loop-product.product 0)
+  left = rw (same, sold)
 
-left_most : (c : After-less-left) → c.less-left.result.0 ≤ most_storage + 16 * (most_rate * most_week_minutes)
-unfolding inventory_of
-left_most c =
-    let known : c.loop-product.product < c.args.f.products = omega (arith, c.loop-product-test.true, c.as_usize-products.ensures.0) in
-    let same : get_or c.loop-product.inventory c.loop-product.product 0 ≡ get_or c.args.self.inventory c.loop-product.product 0 =
-    cell_next _ _ _ _ c.loop-product.invariant.1 in
-    omega (arith, c.less-left.ensures, c.requires.1.inventory_most _ known)
+  before_most : get_or c.loop-product.inventory c.loop-product.product 0 ≤ most_storage + 16 * (most_rate * most_week_minutes)
+  unfolding inventory_of
+  before_most = omega (arith, same, c.requires.1.inventory_most _ known)
+
+pub bounds-inventory-product : goal.bounds-inventory-product
+bounds-inventory-product c = omega (arith, (few c.args.input.plant).products)
+
+pub bounds-inventory-product-in-loop-product : goal.bounds-inventory-product-in-loop-product
+bounds-inventory-product-in-loop-product c = omega (arith, (few c.args.input.plant).products)
+
+pub charge-held-requires : goal.charge-held-requires
+charge-held-requires c =
+    (search rules, omega (arith, before_most (goal.at.charge-held-requires c).After-sold-sold))
 
 pub overflow_add-cost : goal.overflow_add-cost
 overflow_add-cost c =
-    omega (
-      arith,
-      c.charge-held.ensures.1,
-      left_most (goal.at.overflow_add-cost c).After-less-left,
-      c.loop-product.invariant.5,
-      place (goal.at.overflow_add-cost c).In-loop-product,
-    )
+    let at = (goal.at.overflow_add-cost c).After-sold-sold in
+    omega (arith, c.charge-held.ensures.1, before_most at, c.loop-product.invariant.4, known at, (few c.args.input.plant).products)
 
 pub loop-product-preserved : goal.loop-product-preserved
 loop-product-preserved c =
-    let b = c.loop-product in (
-      search rules,
-      cell_stored _ _ _ _ b.invariant.1 _ (left (goal.at.loop-product-preserved c).After-less-left),
-      rw (add-one, c.and-in_stock.ensures, b.invariant.2, same (goal.at.loop-product-preserved c).In-loop-product, c.sold.ensures.0),
-      rw (add-one, c.and-kept.ensures, c.inside.ensures, b.invariant.3, c.greatest_storage-greatest.ensures.0)
-          (rw (c.least_storage-least.ensures.0, left (goal.at.loop-product-preserved c).After-less-left)),
-      rw (
-        add-one,
-        ← (left (goal.at.loop-product-preserved c).After-less-left),
-        ← c.inventory_cost.ensures.0,
-      ) (omega (arith, b.invariant.4, c.charge-held.ensures.0)),
-      omega (arith, b.invariant.5, c.charge-held.ensures.1, left_most (goal.at.loop-product-preserved c).After-less-left),
+    let b = c.loop-product in
+    let at = (goal.at.loop-product-preserved c).After-sold-sold in (
+      cell_stored _ _ _ _ b.invariant.0 _ (left at),
+      rw (add-one, b.invariant.1, ← (sold at), ← (same at)) (search (rules, tests)),
+      rw (add-one, ← b.invariant.2, ← (left at))
+          (elim c.if-kept.branch [
+            | then-kept w ↦ rw (w.kept-is, w.if-kept.true) (search rules)
+            | else-kept w ↦ rw (w.kept-is, w.if-kept.false)
+          ]),
+      rw (add-one, ← (left at), ← c.inventory_cost.ensures.0) (omega (arith, b.invariant.3, c.charge-held.ensures.0)),
+      omega (arith, b.invariant.4, c.charge-held.ensures.1, before_most at),
     )
+
+-- sales that exceed the stock of one product
+pub returns-then-before-sold : goal.returns-then-before-sold
+returns-then-before-sold c =
+    let a = c.args in
+    let P = plant_in a.input.plant in
+    let v = week_in a.input a.week in
+    let at = (goal.at.returns-then-before-sold c).After-sold-sold in
+    let short : in_stock_at P v a.self.inventory c.loop-product.product ≡ false = rw (← (sold at), ← (same at)) (search (rules, tests)) in
+    let e : sales_in_stock P v a.self ≡ false =
+    sym (in_stock_all P v a.self P.products refl) ∙ all_fails _ _ c.loop-product.product (known at) short in
+    rw e
+
+pub returns-then-not-kept : goal.returns-then-not-kept
+returns-then-not-kept c =
+    let a = c.args in
+    let b = c.loop-product in
+    let n = (few a.input.plant).products in
+    let e : b.product ≡ a.input.plant.shape.products = omega (arith, c.from-product-end.ensures) in
+    let room : a.input.plant.shape.products ≤ length a.self.inventory = omega (arith, c.requires.1.inventory_long, n) in
+    let stocked : sales_in_stock (plant_in a.input.plant) (week_in a.input a.week) a.self ≡ true = sym (in_stock_all _ _ _ _ e) ∙ b.invariant.1 in
+    let full : storage_kept (plant_in a.input.plant) (inventory_after (plant_in a.input.plant) (week_in a.input a.week) a.self) ≡ false =
+    sym (kept_all _ _ _ _ e room) ∙ (sym b.invariant.2 ∙ c.if-not-kept.true) in
+    rw (stocked, full)
 
 pub returns : goal.returns
 returns c =
     let a = c.args in
     let b = c.loop-product in
-    let n = (counts _ _ c.requires.0.plant_good).products in
-    let e : b.product ≡ a.f.products = omega (arith, c.loop-product-test.false, b.invariant.0, c.as_usize-products.ensures.0) in
-    let room : a.f.products ≤ length a.self.inventory = omega (arith, c.requires.1.inventory_long, n) in
+    let n = (few a.input.plant).products in
+    let e : b.product ≡ a.input.plant.shape.products = omega (arith, c.from-product-end.ensures) in
+    let room : a.input.plant.shape.products ≤ length a.self.inventory = omega (arith, c.requires.1.inventory_long, n) in
     record {
-      inventory = b.invariant.1 ∙ inventory_all _ _ _ _ e;
-      in_stock = b.invariant.2 ∙ in_stock_all _ _ _ _ e;
-      kept = b.invariant.3 ∙ kept_all _ _ _ _ e room;
-      charge = b.invariant.4 ∙ charge_all _ _ _ _ e room;
-      charge_most = omega (arith, b.invariant.5, n);
+      in_stock = sym (in_stock_all _ _ _ _ e) ∙ b.invariant.1;
+      kept = sym (kept_all _ _ _ _ e room) ∙ (sym b.invariant.2 ∙ c.if-not-kept.false);
+      inventory = b.invariant.0 ∙ inventory_all _ _ _ _ e;
+      charge = b.invariant.3 ∙ charge_all _ _ _ _ e room;
+      charge_most = omega (arith, b.invariant.4, n);
     }
-
-pub loop-product-init : goal.loop-product-init
-loop-product-init c =
-    (search rules, refl, refl, refl, refl, search rules)
-
-pub offset_bounds-inventory-product : goal.offset_bounds-inventory-product
-offset_bounds-inventory-product c =
-    omega (arith, place (goal.at.offset_bounds-inventory-product c).In-loop-product)
-
-pub bounds-inventory-product : goal.bounds-inventory-product
-bounds-inventory-product c =
-    omega (arith, place (goal.at.bounds-inventory-product c).In-loop-product)
-
-pub offset_bounds-inventory-product-in-loop-product : goal.offset_bounds-inventory-product-in-loop-product
-offset_bounds-inventory-product-in-loop-product c =
-    omega (arith, place (goal.at.offset_bounds-inventory-product-in-loop-product c).In-loop-product)
-
-pub bounds-inventory-product-in-loop-product : goal.bounds-inventory-product-in-loop-product
-bounds-inventory-product-in-loop-product c =
-    omega (arith, place (goal.at.bounds-inventory-product-in-loop-product c).In-loop-product)
-
-pub charge-held-requires : goal.charge-held-requires
-charge-held-requires c =
-    (search rules, omega (arith, left_most (goal.at.charge-held-requires c).After-less-left))

@@ -1,21 +1,20 @@
--- `machine::State::run_row` meets its contract: the slots below `i` have run. Assumes nothing.
-use Rattle.std.proofs.Common.{arith, ◌≡◌, length}
-use Rattle.machine.proofs.Rows.{row_starts, row_asks, row_goes, row_ends}
+-- `machine::State::run_row` meets its contract: the slots below the index have run. Assumes nothing.
+use Rattle.std.proofs.lemmas.Result.{err_from_is_err_and}
+use Rattle.machine.proofs.Rows.{row_asks, row_goes, row_stops}
 use Rattle.machine.proofs.State.run_row.Goals as goal
 
-pub loop-i-init : goal.loop-i-init
-loop-i-init c = row_starts _ _ _ _ c.requires
+pub slot-requires : goal.slot-requires
+slot-requires c =
+    row_asks c.args.plant c.args.row.now c.args.self c.requires c.loop-slot.slot-index c.loop-slot.state c.loop-slot.invariant c.loop-slot-test.true
 
-pub slot_after-r-requires : goal.slot_after-r-requires
-slot_after-r-requires c =
-    row_asks c.args.f c.args.plant.now c.args.row.now c.args.self c.requires c.loop-i.i c.loop-i.r c.loop-i.invariant c.loop-i-test.true
+pub loop-slot-preserved : goal.loop-slot-preserved
+loop-slot-preserved c =
+    row_goes c.args.plant c.args.row.now c.args.self c.requires c.loop-slot.slot-index c.loop-slot.state c.loop-slot.invariant c.loop-slot-test.true
+    c.in_ok-state.state c.in_ok-state.ensures
 
-pub loop-i-preserved : goal.loop-i-preserved
-loop-i-preserved c =
-    rw c.slot_after-r.ensures
-    (row_goes c.args.f c.args.plant.now c.args.row.now c.args.self c.requires c.loop-i.i c.loop-i.r c.loop-i.invariant c.loop-i-test.true)
-
-pub returns : goal.returns
-returns c =
-    let e : c.loop-i.i ≡ length c.args.row.now = omega (arith, c.loop-i.invariant.within) in
-    row_ends c.args.f c.args.plant.now c.args.row.now c.args.self c.requires c.loop-i.i c.loop-i.r c.loop-i.invariant e
+pub returns-in_err-state : goal.returns-in_err-state
+returns-in_err-state c =
+    let p = err_from_is_err_and c.from_residual.result c.from_residual.ensures.1 in
+    rw (p.1, p.2)
+    (row_stops c.args.plant c.args.row.now c.args.self c.requires c.loop-slot.slot-index c.loop-slot.state c.loop-slot.invariant c.loop-slot-test.true
+    _ _ c.in_err-state.ensures)

@@ -1,76 +1,48 @@
 -- `machine::State::week_end` meets its contract. Assumes nothing.
 use Prim.Native.Nat.{◌≤◌}
-use mathlib.Core.Path.{◌≡◌, sym, ap, ◌∙◌}
 use native.Mathlib.Omega.{arith}
 use lib.Signed.{mag}
-use Rattle.plant_file.specs.Plant.{plant_of}
-use Rattle.machine.specs.State.{continues, first_met}
-use Rattle.machine.specs.Files.{week_of_files}
+use mathlib.Core.Path.{sym}
 use Rattle.machine.specs.Bounds.{Roomy}
-use Rattle.machine.proofs.Plants.{counts}
-use Rattle.machine.proofs.Sanity.{sane_roomy}
-use Rattle.machine.proofs.Steps.{tries, week_stops_lem, week_continues, week_parts}
+use Rattle.machine.proofs.Inputs.{roomy}
+use Rattle.machine.proofs.Steps.{backlog_stopped, inventory_stopped, week_updated}
 use Rattle.machine.proofs.State.week_end.Goals as goal
-use Rattle.machine.proofs.State.week_end.Goals.{After-week_outcome-outcome, Start}
+use Rattle.machine.proofs.State.week_end.Goals.{In-Ok-inventory_update, Start}
 
--- a week of the plant is before week 26
-early : (c : Start) → c.args.week ≤ 25
-early c = omega (arith, (counts _ _ c.requires.0.plant_good).weeks, c.requires.0.week_known)
-
-roomy : (c : Start) → Roomy c.args.f c.args.self
-roomy c = sane_roomy c.requires.1 (omega (arith, early c)) (omega arith)
+wide : (c : Start) → Roomy c.args.input.plant.shape c.args.self
+wide c = roomy c.args.input c.args.week c.requires.0 c.args.self c.requires.1
 
 -- the profit and the week's amounts are small
-amounts : (c : After-week_outcome-outcome) → (mag c.args.self.profit.0 ≤ 4000000000000000000)
-    × (c.backlog_update-carried.result.revenue.0 ≤ 60000000000000000)
-    × (c.backlog_update-carried.result.charge.0 ≤ 60000000000000000)
-    × (c.inventory_update-sold.result.charge.0 ≤ 60000000000000000)
+amounts : (c : In-Ok-inventory_update) → (mag c.args.self.profit.0 ≤ 4000000000000000000)
+    × (c.in-Ok.carried.revenue.0 ≤ 60000000000000000)
+    × (c.in-Ok.carried.charge.0 ≤ 60000000000000000)
+    × (c.in-Ok-inventory_update.sold.charge.0 ≤ 60000000000000000)
 amounts c =
-    let carried = c.backlog_update-carried.ensures in (
-      omega (
-        arith,
-        (sane_roomy c.requires.1 (omega (arith, (counts _ _ c.requires.0.plant_good).weeks, c.requires.0.week_known)) (omega arith)).profit_most,
-      ),
-      carried.revenue_most,
-      carried.charge_most,
-      c.inventory_update-sold.ensures.charge_most,
-    )
+    let room = roomy c.args.input c.args.week c.requires.0 c.args.self c.requires.1 in
+    (omega (arith, room.profit_most), c.in-Ok.ensures.revenue_most, c.in-Ok.ensures.charge_most, c.in-Ok-inventory_update.ensures.charge_most)
 
--- the outcome of the three tests
-tested : (c : After-week_outcome-outcome) → let a = c.args in
-    c.week_outcome-outcome.result ≡ first_met (tries (plant_of a.f a.plant.now) (week_of_files a.f a.plant.now a.slots.now a.week) a.self)
-tested c =
-    let carried = c.backlog_update-carried.ensures in
-    let sold = c.inventory_update-sold.ensures in
-    rw (← carried.due, ← sold.in_stock, ← sold.kept) c.week_outcome-outcome.ensures
+pub backlog_update-requires : goal.backlog_update-requires
+backlog_update-requires c = (c.requires.0, wide (goal.at.backlog_update-requires c).Start)
 
-pub returns-in-Stops : goal.returns-in-Stops
-returns-in-Stops c = week_stops_lem _ _ _ _ (tested (goal.at.returns-in-Stops c).After-week_outcome-outcome) _ c.in-Stops.is
+pub inventory_update-requires : goal.inventory_update-requires
+inventory_update-requires c = (c.requires.0, wide (goal.at.inventory_update-requires c).Start)
+
+pub gain-requires : goal.gain-requires
+gain-requires c = omega (arith, amounts (goal.at.gain-requires c).In-Ok-inventory_update)
+
+pub pay-requires : goal.pay-requires
+pay-requires c = omega (arith, amounts (goal.at.pay-requires c).In-Ok-inventory_update, c.gain.ensures.1)
+
+pub pay-profit-requires : goal.pay-profit-requires
+pay-profit-requires c = omega (arith, amounts (goal.at.pay-profit-requires c).In-Ok-inventory_update, c.gain.ensures.1, c.pay.ensures.1)
+
+pub returns-in-Err : goal.returns-in-Err
+returns-in-Err c = sym (backlog_stopped _ _ _ _ c.in-Err.ensures)
+
+pub returns-in-Err-inventory_update : goal.returns-in-Err-inventory_update
+returns-in-Err-inventory_update c =
+    sym (inventory_stopped _ _ _ c.in-Ok.ensures.due _ c.in-Err-inventory_update.ensures)
 
 pub returns : goal.returns
 returns c =
-    let carried = c.backlog_update-carried.ensures in
-    let sold = c.inventory_update-sold.ensures in
-    ap continues
-    (week_parts _ _ _ _ _ _ carried sold (rw (c.pay-profit.ensures.0, c.pay.ensures.0, c.gain.ensures.0)))
-    ∙ sym (week_continues _ _ _ _ (tested (goal.at.returns c).After-week_outcome-outcome) c.in_default.is)
-
-pub backlog_update-carried-requires : goal.backlog_update-carried-requires
-backlog_update-carried-requires c =
-    (c.requires.0, roomy (goal.at.backlog_update-carried-requires c).Start)
-
-pub inventory_update-sold-requires : goal.inventory_update-sold-requires
-inventory_update-sold-requires c =
-    (c.requires.0, roomy (goal.at.inventory_update-sold-requires c).Start)
-
-pub gain-requires : goal.gain-requires
-gain-requires c =
-    omega (arith, amounts (goal.at.gain-requires c).After-week_outcome-outcome)
-
-pub pay-requires : goal.pay-requires
-pay-requires c =
-    omega (arith, amounts (goal.at.pay-requires c).After-week_outcome-outcome, c.gain.ensures.1)
-
-pub pay-profit-requires : goal.pay-profit-requires
-pay-profit-requires c =
-    omega (arith, amounts (goal.at.pay-profit-requires c).After-week_outcome-outcome, c.gain.ensures.1, c.pay.ensures.1)
+    sym (week_updated _ _ _ _ _ _ c.in-Ok.ensures c.in-Ok-inventory_update.ensures (rw (c.pay-profit.ensures.0, c.pay.ensures.0, c.gain.ensures.0)))

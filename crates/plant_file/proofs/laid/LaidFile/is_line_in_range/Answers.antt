@@ -1,0 +1,14 @@
+-- `plant_file::LaidFile::is_line_in_range` meets its contract. Assumes nothing.
+use borrow.Author.Rules.{rules}
+use native.Mathlib.Omega.{arith}
+use Rattle.plant_file.proofs.LaidAccess.{holds2, holds4}
+use Rattle.plant_file.proofs.laid.LaidFile.is_line_in_range.Goals as goal
+
+pub in_range-requires : goal.in_range-requires
+in_range-requires c = holds4 c.args.self 1 (search rules) (omega arith)
+
+pub in_range-requires-then-in_range : goal.in_range-requires-then-in_range
+in_range-requires-then-in_range c = holds2 c.args.self 2 (search rules) (omega arith)
+
+pub in_range-requires-then-in_range-2 : goal.in_range-requires-then-in_range-2
+in_range-requires-then-in_range-2 c = holds4 c.args.self 3 (search rules) (omega arith)

@@ -1,5 +1,0 @@
--- `rules::inventory_at` meets its contract. Assumes nothing.
-use Rattle.rules.proofs.inventory_at.Goals as goal
-
-pub returns : goal.returns
-returns c = cc

@@ -1,6 +1,0 @@
--- `rules::storage_at` meets its contract. Assumes nothing.
-use Rattle.rules.proofs.storage_at.Goals as goal
-
-pub returns : goal.returns
-returns c =
-    cc

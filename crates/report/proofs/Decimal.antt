@@ -1,26 +1,40 @@
--- Decimal text: its digits from the last, and its length. Assumes nothing.
-use Prim.Native.Nat.{ℕ, zero, suc, ◌+◌, ◌/◌, ◌%◌, ◌^◌, ◌<◌, ◌≤◌}
-use mathlib.Core.Path.{◌≡◌, ap, ◌∙◌}
+-- Decimal text: its digits, and its length. Assumes nothing.
+use Prim.Native.Nat.{ℕ, zero, suc, ◌+◌, ◌/◌, ◌%◌, ◌^◌, ◌*◌, ◌<◌, ◌≤◌, max}
+use mathlib.Core.Path.{◌≡◌, refl, ap}
 use mathlib.Core.Bool.{Bool, true, false, cond}
 use mathlib.Core.List.{List, [], ◌∷◌, ◌++◌}
 use native.Mathlib.Omega.{arith}
 use lib.Dec.{ltb}
 use lib.ListN.{length, length-append}
-use borrow.Author.Tests.{lt-ltb, le-ltb}
+use borrow.Author.Tests.{lt-ltb, le-ltb, ltb-true}
+use native.Mathlib.Numerals.{add-one}
 use Rattle.report.specs.Text.{decimal_of, decimal}
 
--- one place more, where the number has room already
-more : (k n : ℕ) → n < 10 ^ suc k → decimal_of (suc k) n ≡ decimal_of (suc (suc k)) n
-more zero n h = rw (lt-ltb n 10 h)
-more (suc k) n h = ap (λ (l : List ℕ). cond (ltb n 10) ((48 + n) ∷ []) (l ++ ((48 + n % 10) ∷ []))) (more k (n / 10) (omega arith))
+-- ---- the digits
+-- the last k digits of a number
+abbrev pub digits : ℕ → ℕ → List ℕ
+digits zero n = []
+digits (suc k) n = digits k (n / 10) ++ ((48 + n % 10) ∷ [])
 
-pub decimal_small : (n : ℕ) → n < 10 → decimal n ≡ (48 + n) ∷ []
-unfolding decimal
-decimal_small n h = rw (lt-ltb n 10 h)
+digits_all : (m n : ℕ) → decimal_of m n ≡ digits (length (decimal_of m n)) n
+digits_all zero n = refl
+digits_all (suc m) n = by_size (ltb n 10) refl (digits_all m (n / 10))
+  where
+    whole : Bool → List ℕ
+    whole b = cond b ((48 + n) ∷ []) (decimal_of m (n / 10) ++ ((48 + n % 10) ∷ []))
 
-pub decimal_large : (n : ℕ) → 10 ≤ n → n < 2 ^ 64 → decimal n ≡ decimal (n / 10) ++ ((48 + n % 10) ∷ [])
+    by_size : (b : Bool) → ltb n 10 ≡ b → decimal_of m (n / 10) ≡ digits (length (decimal_of m (n / 10))) (n / 10)
+        → whole b ≡ digits (length (whole b)) n
+    by_size true t rest = let small : n % 10 ≡ n = omega (arith, ltb-true n 10 t) in rw small refl
+    by_size false t rest = rw (length-append, add-one) (ap (λ (l : List ℕ). l ++ ((48 + n % 10) ∷ [])) rest)
+
+pub digits_length : (k n : ℕ) → length (digits k n) ≡ k
+digits_length zero n = refl
+digits_length (suc k) n = omega (arith, length-append (digits k (n / 10)) ((48 + n % 10) ∷ []), digits_length k (n / 10))
+
+pub decimal_digits : (n : ℕ) → decimal n ≡ digits (length (decimal n)) n
 unfolding decimal
-decimal_large n l h = rw (le-ltb n 10 l) (ap (λ (x : List ℕ). x ++ ((48 + n % 10) ∷ [])) (more 18 (n / 10) (omega arith)))
+decimal_digits n = digits_all 20 n
 
 -- ---- lengths
 digits_more : (b : Bool) (x y : ℕ) (l : List ℕ) (m : ℕ) → length l ≤ m → length (cond b (x ∷ []) (l ++ (y ∷ []))) ≤ suc m
@@ -46,14 +60,24 @@ pub decimal_length : (k n : ℕ) → n < 10 ^ suc k → length (decimal n) ≤ s
 unfolding decimal
 decimal_length k n h = digits_below 20 k n h
 
-pub decimal_some : (n : ℕ) → 1 ≤ length (decimal n)
-unfolding decimal
-decimal_some n = by_size (ltb n 10) (decimal_of 19 (n / 10))
+ten_some : (k : ℕ) → 1 ≤ 10 ^ k
+ten_some zero = omega arith
+ten_some (suc k) = omega (arith, ten_some k)
+
+-- a number from 10 ^ k on has more than k digits, and 0 has one
+digits_least : (m k n : ℕ) → k < m → 10 ^ k ≤ max n 1 → suc k ≤ length (decimal_of m n)
+digits_least zero k n l h = absurd (omega arith)
+digits_least (suc m) zero n l h = by_size (ltb n 10) (decimal_of m (n / 10))
   where
     by_size : (b : Bool) (l : List ℕ) → 1 ≤ length (cond b ((48 + n) ∷ []) (l ++ ((48 + n % 10) ∷ [])))
     by_size true l = omega arith
     by_size false l = omega (arith, length-append l ((48 + n % 10) ∷ []))
+digits_least (suc m) (suc k) n l h =
+    let some = ten_some k in
+    let large : 10 ≤ n = omega arith in
+    let rest = digits_least m k (n / 10) (omega arith) (omega arith) in
+    rw (le-ltb n 10 large, length-append) (omega arith)
 
--- all digits but the last
-pub large_length : (n : ℕ) → 10 ≤ n → n < 2 ^ 64 → length (decimal n) ≡ length (decimal (n / 10)) + 1
-large_length n l h = ap length (decimal_large n l h) ∙ length-append (decimal (n / 10)) ((48 + n % 10) ∷ [])
+pub decimal_count : (k n : ℕ) → k < 20 → 10 ^ k ≤ max n 1 → max n 1 < 10 * 10 ^ k → length (decimal n) ≡ k + 1
+unfolding decimal
+decimal_count k n l least most = omega (arith, digits_least 20 k n l least, digits_below 20 k n (omega arith))

@@ -27,11 +27,11 @@ use Rattle.model.proofs.Changeovers.{total_minutes, total_changeover}
 use Rattle.model.proofs.RunStates.{slots_clock}
 use Rattle.model.proofs.Stops.{WeekContinues}
 use Rattle.model.proofs.GivenPlans.{continued}
-use Rattle.passed_plan.specs.Shown.{shown_in}
+use Rattle.passed_plan.specs.Shown.{shown_in, Ordered}
 use Rattle.passed_plan.proofs.PassedPlan.{Passing, PassedPlan, passed_plan}
 use Rattle.report.specs.Text.{line}
 use Rattle.report.specs.Report.{slot_lines, week_lines}
-use Rattle.report.specs.Weeks.{week_text, Ready}
+use Rattle.report.specs.Weeks.{week_text}
 use Rattle.report.proofs.Decimal.{decimal_length}
 use Rattle.report.proofs.StoredText.{line_length}
 
@@ -68,7 +68,7 @@ week_lines_most P R S w l g c =
 
 -- ---- the lines of a plan that passes
 pub record PassedText (f : Shape) (plant plan : List ℕ) : Type 0 where
-  pub ready : Ready f plant plan
+  pub ordered : Ordered f plan
   pub lines : join_below f.weeks (week_text f plant plan) ≡ week_lines (plant_of f plant) (shown_in f plan)
   pub most : length (join_below f.weeks (week_text f plant plan)) ≤ 9984
 
@@ -96,7 +96,7 @@ pub passed_text : (f : Shape) (plant plan : List ℕ) (q : Profit) → Bytes pla
 passed_text f plant plan q bytes h =
     let p = passed_plan f plant plan q bytes h in
     record {
-      ready = record { plant_good = h.plant_good; ordered = p.ordered };
+      ordered = p.ordered;
       lines = passed_lines f plant plan p;
       most = passed_most f plant plan p;
     }

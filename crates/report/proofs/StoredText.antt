@@ -1,5 +1,5 @@
 -- Texts stored one after the other. Assumes nothing.
-use Prim.Native.Nat.{ℕ, suc, ◌+◌, ◌/◌, ◌%◌, ◌^◌, ◌<◌, ◌≤◌}
+use Prim.Native.Nat.{ℕ, suc, ◌+◌, ◌/◌, ◌%◌, ◌<◌, ◌≤◌}
 use mathlib.Core.Path.{◌≡◌, refl, sym, ap, ◌∙◌}
 use mathlib.Core.List.{List, [], ◌∷◌, ◌++◌, append_assoc, append-nil}
 use native.Mathlib.Omega.{arith}
@@ -11,7 +11,7 @@ use Rattle.numbers.specs.Number.{store}
 use Rattle.numbers.proofs.Store.{store_store}
 use Rattle.report.specs.Text.{decimal, line}
 use Rattle.report.specs.Stored.{Stored}
-use Rattle.report.proofs.Decimal.{decimal_small, decimal_large, large_length}
+use Rattle.report.proofs.Decimal.{digits, digits_length}
 
 pub stored_byte : (s : List ℕ) (at x : ℕ) → at < length s → Stored s at (x ∷ []) (at + 1) (set s at x)
 stored_byte s at x h =
@@ -63,21 +63,14 @@ module _ {s t : List ℕ} {at p : ℕ} {text left : List ℕ} where
       record { end = omega (arith, r.size, ap length e); output = (stored_none t p).output ∙ (rw e at r.same) }
 
 -- ---- numbers
--- the last digit of a number of several
-pub digit_back : (s : List ℕ) (at n p : ℕ) → 10 ≤ n → n < 2 ^ 64 → at + length (decimal n) ≤ length s → p + 1 ≡ at + length (decimal n)
-    → store (set s p (48 + n % 10)) at (decimal (n / 10)) ≡ store s at (decimal n)
-digit_back s at n p l h r e =
-    let place : p ≡ at + length (decimal (n / 10)) = omega (arith, large_length n l h) in
-    rw (place, decimal_large n l h) (stored_back s at (48 + n % 10) (decimal (n / 10)) (omega (arith, large_length n l h)))
+-- the last digit of m first, then the k before it
+pub digit_back : (s : List ℕ) (at n j k m : ℕ) → j ≡ at + k → m ≡ suc k → j < length s
+    → store (set s j (48 + n % 10)) at (digits k (n / 10)) ≡ store s at (digits m n)
+digit_back s at n j k m e more h =
+    let place : j ≡ at + length (digits k (n / 10)) = omega (arith, digits_length k (n / 10)) in
+    rw (place, more) (stored_back s at (48 + n % 10) (digits k (n / 10)) (omega arith))
 
--- the digit of a number of one
-pub digit_first : (s : List ℕ) (at n p : ℕ) → n < 10 → at + length (decimal n) ≤ length s → p + 1 ≡ at + length (decimal n)
-    → set s p (48 + n) ≡ store s at (decimal n)
-digit_first s at n p h r e =
-    let one = ap length (decimal_small n h) in
-    let place : p ≡ at = omega arith in
-    rw (place, decimal_small n h) (stored_byte s at (48 + n) (omega arith)).output
-
+-- ---- lines
 -- a line of five, field by field
 pub line_fields : (a b c d e : ℕ) →
     decimal a ++ (32 ∷ []) ++ (decimal b ++ (32 ∷ [])) ++ (decimal c ++ (32 ∷ [])) ++ (decimal d ++ (32 ∷ [])) ++ (decimal e ++ (10 ∷ []))

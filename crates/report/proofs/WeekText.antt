@@ -10,11 +10,9 @@ use Rattle.mathematics.specs.Order.{order_of}
 use Rattle.mathematics.proofs.Below.{sum_prefix}
 use Rattle.mathematics.proofs.Join.{join_length}
 use Rattle.sections.specs.declared.Shape.{Shape}
-use Rattle.std.specs.Prelude.{Ok, Some}
+use Rattle.std.specs.Prelude.{Some}
 use Rattle.costs.specs.Mounted.{Mounted}
 use Rattle.plant_file.specs.Plant.{plant_of}
-use Rattle.plant_file.specs.Form.{plant_form}
-use Rattle.plant_file.proofs.PlantInRange.{plant_ranges}
 use Rattle.plan_file.specs.Plan.{plan_of}
 use Rattle.costs.specs.Changeover.{changeover_to}
 use Rattle.model.specs.Match.{slots_for, line_shown, slots_shown}
@@ -22,9 +20,7 @@ use Rattle.passed_plan.specs.Shown.{week_count, week_product, week_mounted, week
 use Rattle.report.specs.Text.{line}
 use Rattle.report.specs.Report.{slot_lines}
 use Rattle.report.specs.Weeks.{week_text}
-
-pub few : (s : List ℕ) (f : Shape) → plant_form s ≡ Ok f → (f.products ≤ 16) × (f.weeks ≤ 26)
-few s f good = let r = plant_ranges s f good in (r.products_most, r.weeks_most)
+use Rattle.report.specs.declared.PassedFiles.{PassedFiles}
 
 slots_drop : (minutes : ℕ → ℕ) (n : ℕ) (product : ℕ → ℕ) (k : ℕ) → k < n
     → drop k (slots_for minutes (list_below n product))
@@ -40,6 +36,9 @@ slots_end minutes (suc n) product = slots_end minutes n (λ j. product (suc j))
 -- the lines of week w from slot k on, where m is mounted and the clock stands at t
 abbrev pub lines_from : Shape → (plant plan : List ℕ) → ℕ → Mounted → (t k : ℕ) → List ℕ
 lines_from f plant plan w m t k = slot_lines (plant_of f plant) w m t (drop k (week_slots f plan w))
+
+abbrev pub lines_in : PassedFiles → ℕ → Mounted → (t k : ℕ) → List ℕ
+lines_in files w m t k = lines_from files.plan.shape files.plant.bytes.now files.plan.bytes.now w m t k
 
 module _ (f : Shape) (plant plan : List ℕ) (w : ℕ) where
   week_drop : (k : ℕ) → k < week_count f plan w → drop k (week_slots f plan w)

@@ -2,3 +2,4 @@ pub mod Text
 pub mod Stored
 pub mod Report
 pub mod Weeks
+pub mod Files

@@ -1,19 +1,19 @@
-// The text of planreport. Each writer stores its text in the lent output from a position on, and answers the position behind it.
+// The text of planreport. Each writer stores its text in the lent output from a position on, and answers the position behind it. The two are
+// separate arguments: of one struct that held both, each writer would also have to ensure that it still holds the same reference.
 #![tactic(auto)]
 
-ghost use Rattle.std.specs.Prelude.{◌≡◌, [], ◌∷◌, ◌++◌, ◌+◌, ◌≤◌, ◌<◌, nat_abs, length};
-ghost use Rattle.mathematics.specs.Below.{join_below};
+ghost use Rattle.std.specs.Prelude.{◌≡◌, [], ◌∷◌, ◌++◌, ◌+◌, ◌≤◌, ◌<◌, length};
 ghost use Rattle.numbers.specs.Number.{store};
+ghost use Rattle.passed_plan.specs.Shown.{Ordered};
 ghost use Rattle.report.specs.Text.{decimal, signed_decimal, line};
 ghost use Rattle.report.specs.Stored.{Stored};
 ghost use Rattle.report.specs.Report.{first_line, report_text};
-ghost use Rattle.report.specs.Weeks.{week_text, Ready};
 
 use costs::changeover_to;
-use numbers::as_usize;
 use passed_plan::{judge_files, mounted_product, product_at, week_count};
+use plan_file::PlanFile;
 use plant_file::PlantFile;
-use sections::{Refusal, Shape};
+use sections::Refusal;
 use units::Profit;
 
 fn write_byte(out: &mut [u8], at: usize, byte: u8) -> usize
@@ -28,26 +28,16 @@ fn write_bytes(out: &mut [u8], at: usize, text: &[u8]) -> usize
     requires { at + length text.now ≤ length out.old }
     ensures { Stored out.old at text.now result out.new }
 {
-    let mut p = at;
-    let mut i = 0;
-    while i < text.len() {
-        p = write_byte(out, p, text[i]);
-        i += 1;
-    }
-    p
+    let end = at + text.len();
+    out[at..end].copy_from_slice(text);
+    end
 }
 
 // How many digits v has.
 fn digit_count(v: u64) -> usize
     ensures { result ≡ length (decimal v) }
 {
-    let mut left = v;
-    let mut n = 1;
-    while 10 <= left {
-        left = left / 10;
-        n += 1;
-    }
-    n
+    v.max(1).ilog10() as usize + 1
 }
 
 // The digits, from the last one back.
@@ -57,37 +47,19 @@ fn write_decimal(out: &mut [u8], at: usize, v: u64) -> usize
 {
     let end = at + digit_count(v);
     let mut left = v;
-    let mut p = end - 1;
-    while 10 <= left {
-        out[p] = (48 + left % 10) as u8;
-        left = left / 10;
-        p -= 1;
+    for p in (at..end).rev() {
+        out[p] = b'0' + (left % 10) as u8;
+        left /= 10;
     }
-    out[p] = (48 + left) as u8;
     end
-}
-
-// A number without its sign.
-fn magnitude(z: i64) -> u64
-    ensures { result ≡ nat_abs z }
-{
-    if z < 0 {
-        let below = !z;
-        below as u64 + 1
-    } else {
-        z as u64
-    }
 }
 
 fn write_signed(out: &mut [u8], at: usize, z: i64) -> usize
     requires { at + length (signed_decimal z) ≤ length out.old }
     ensures { Stored out.old at (signed_decimal z) result out.new }
 {
-    if z < 0 {
-        let p = write_byte(out, at, 45);
-        return write_decimal(out, p, magnitude(z));
-    }
-    write_decimal(out, at, magnitude(z))
+    let digits = if z < 0 { write_byte(out, at, b'-') } else { at };
+    write_decimal(out, digits, z.unsigned_abs())
 }
 
 // A number, and the byte that ends it.
@@ -111,56 +83,11 @@ fn write_line(
     requires { at + length (line week (product ∷ change ∷ start ∷ end ∷ [])) ≤ length out.old }
     ensures { Stored out.old at (line week (product ∷ change ∷ start ∷ end ∷ [])) result out.new }
 {
-    let a = write_field(out, at, week, 32);
-    let b = write_field(out, a, product, 32);
-    let c = write_field(out, b, change, 32);
-    let d = write_field(out, c, start, 32);
-    write_field(out, d, end, 10)
-}
-
-fn write_week(out: &mut [u8], at: usize, plant: &[u8], plan: &[u8], f: Shape, week: usize) -> usize
-    requires { Ready f plant.now plan.now × (week < f.weeks) × (at + length (week_text f plant.now plan.now week) ≤ length out.old) }
-    ensures { Stored out.old at (week_text f plant.now plan.now week) result out.new }
-{
-    let n = week_count(plan, f, week);
-    let mut mounted = mounted_product(plant, plan, f, week);
-    let mut clock = 0;
-    let mut p = at;
-    let mut k = 0;
-    while k < n {
-        let product = product_at(plan, f, week, k);
-        let minutes = plan_file::minutes(plan, f, week, product);
-        let over = changeover_to(
-            PlantFile {
-                bytes: plant,
-                shape: f,
-            },
-            mounted,
-            product,
-        );
-        let change = over.minutes.0;
-        let start = clock + change;
-        let end = start + minutes;
-        p = write_line(out, p, week as u64 + 1, product as u64, change, start, end);
-        mounted = Some(product as u8);
-        clock = end;
-        k += 1;
-    }
-    p
-}
-
-fn write_weeks(out: &mut [u8], at: usize, plant: &[u8], plan: &[u8], f: Shape) -> usize
-    requires { Ready f plant.now plan.now × (at + length (join_below f.weeks (week_text f plant.now plan.now)) ≤ length out.old) }
-    ensures { Stored out.old at (join_below f.weeks (week_text f plant.now plan.now)) result out.new }
-{
-    let weeks = as_usize(f.weeks);
-    let mut p = at;
-    let mut week = 0;
-    while week < weeks {
-        p = write_week(out, p, plant, plan, f, week);
-        week += 1;
-    }
-    p
+    let a = write_field(out, at, week, b' ');
+    let b = write_field(out, a, product, b' ');
+    let c = write_field(out, b, change, b' ');
+    let d = write_field(out, c, start, b' ');
+    write_field(out, d, end, b'\n')
 }
 
 // The first line: the profit, or the number of the refusal.
@@ -172,12 +99,61 @@ fn write_first(out: &mut [u8], check: Result<Profit, Refusal>) -> usize
         Ok(profit) => {
             let p = write_bytes(out, 0, b"passed ");
             let q = write_signed(out, p, profit.0);
-            write_byte(out, q, 10)
+            write_byte(out, q, b'\n')
         }
         Err(refusal) => {
             let p = write_bytes(out, 0, b"refused ");
-            write_field(out, p, u64::from(refusal.number()), 10)
+            write_field(out, p, u64::from(refusal.number()), b'\n')
         }
+    }
+}
+
+// A plant file, and a plan file that passes: in each week each slot has its product.
+#[derive(Clone, Copy)]
+struct PassedFiles<'a, 'b> {
+    plant: PlantFile<'a>,
+    plan: PlanFile<'b>,
+    ghost same: { plant.shape ≡ plan.shape },
+    ghost ordered: { Ordered plan.shape plan.bytes.now },
+}
+
+impl PassedFiles<'_, '_> {
+    ghost use Rattle.std.specs.Prelude.{◌+◌, ◌≤◌, ◌<◌, length};
+    ghost use Rattle.mathematics.specs.Below.{join_below};
+    ghost use Rattle.report.specs.Stored.{Stored};
+    ghost use Rattle.report.specs.Files.{week_in};
+
+    // A line for each slot of a week.
+    fn write_week(self, out: &mut [u8], at: usize, week: usize) -> usize
+        requires { (week < self.plan.shape.weeks) × (at + length (week_in self week) ≤ length out.old) }
+        ensures { Stored out.old at (week_in self.entry week) result out.new }
+    {
+        let plan = self.plan.bytes;
+        let f = self.plan.shape;
+        let mut mounted = mounted_product(self.plant.bytes, plan, f, week);
+        let mut clock = 0;
+        let mut p = at;
+        for k in 0..week_count(plan, f, week) {
+            let product = product_at(plan, f, week, k);
+            let change = changeover_to(self.plant, mounted, product).minutes.0;
+            let start = clock + change;
+            let end = start + self.plan.minutes(week, product);
+            p = write_line(out, p, week as u64 + 1, product as u64, change, start, end);
+            mounted = Some(product as u8);
+            clock = end;
+        }
+        p
+    }
+
+    fn write_weeks(self, out: &mut [u8], at: usize) -> usize
+        requires { at + length (join_below self.plan.shape.weeks (week_in self)) ≤ length out.old }
+        ensures { Stored out.old at (join_below self.entry.plan.shape.weeks (week_in self.entry)) result out.new }
+    {
+        let mut p = at;
+        for week in 0..usize::from(self.plan.shape.weeks) {
+            p = self.write_week(out, p, week);
+        }
+        p
     }
 }
 
@@ -190,7 +166,15 @@ pub fn report_text(plant: &[u8], plan: &[u8], out: &mut [u8; 16384]) -> usize
         Err(refusal) => write_first(out, Err(refusal)),
         Ok(passed) => {
             let at = write_first(out, Ok(passed.profit));
-            write_weeks(out, at, plant, plan, passed.shape)
+            let shape = passed.shape;
+            PassedFiles {
+                plant: PlantFile {
+                    bytes: plant,
+                    shape,
+                },
+                plan: PlanFile { bytes: plan, shape },
+            }
+            .write_weeks(out, at)
         }
     }
 }

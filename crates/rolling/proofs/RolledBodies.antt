@@ -20,10 +20,6 @@ use Rattle.plan_file.specs.Plan.{Plan}
 use Rattle.model.specs.Rolled.{rolled_shape, rolled_plant}
 use Rattle.model.proofs.RolledTests.{backlog_after_lem, inventory_after_lem}
 
--- a number read at a place that is this one
-pub read_at : {A : Type 0} (table : ℕ → A) {r : A} {w : ℕ} (v : ℕ) → r ≡ table w → w ≡ v → r ≡ table v
-read_at table v e h = e ∙ ap table h
-
 -- section 10
 pub opening_body : (P : Plant) (x : Plan) (k : ℕ) (rate : ℕ → ℕ) → 1 ≤ k
     → encode 4 P.products (x.inventory (k - 1)) ++ grid 4 P.customers P.products (λ c i. x.backlog c i (k - 1))

@@ -1,1 +1,1 @@
-pub mod Rollable
+pub mod Left

@@ -1,267 +1,239 @@
 // Rolling on: the plant of the weeks that are left after the first k of a plan that passes, with new rates, as a file.
 #![tactic(auto)]
 
-ghost use Rattle.std.specs.Prelude.{◌≡◌, cond, [], ◌++◌, ◌+◌, ◌*◌, ◌/◌, ◌%◌, ◌-◌, ◌≤◌, ◌<◌, length, get_or};
-ghost use Rattle.mathematics.specs.Week.{shut};
-ghost use Rattle.numbers.specs.Number.{encode, store};
-ghost use Rattle.contents.specs.File.{start};
-ghost use Rattle.sections.specs.Section.{grid, cube};
-ghost use Rattle.plant_file.specs.Plant.{plant_of};
-ghost use Rattle.plant_file.specs.Form.{plant_lengths, plant_form};
-ghost use Rattle.plant_file.specs.File.{plant_bodies, plant_file};
-ghost use Rattle.plan_file.specs.Plan.{plan_of};
-ghost use Rattle.plan_file.specs.Form.{plan_form};
-ghost use Rattle.rules.specs.Rules.{week_of};
-ghost use Rattle.passed_plan.specs.Judged.{Judged};
-ghost use Rattle.model.specs.Rolled.{weeks_left, backlog_carried, rolled_shape};
-ghost use Rattle.calls.specs.Answer.{bytes, rolled_in, roll_passed, roll_answer, written_in, output_after};
-ghost use Rattle.rolling.specs.Rollable.{Rollable};
+ghost use Rattle.std.specs.Prelude.{◌≡◌, ◌≤◌, ◌<◌};
+ghost use Rattle.plant_file.specs.Accepted.{plant_in};
+ghost use Rattle.plan_file.specs.Accepted.{plan_in};
+ghost use Rattle.model.specs.Rolled.{weeks_left};
+ghost use Rattle.calls.specs.Answer.{roll_passed, roll_answer, written_in, output_after};
 
 use costs::mounted_number;
-use numbers::{as_usize, wide, write};
-use passed_plan::{judge_files, mounted_product};
-use plan_file::{inventory, pair_backlog};
+use numbers::write;
+use passed_plan::mounted_product;
+use plan_file::{PairTable, PlanFile};
 use plant_file::{
-    copy_body, demand_row, plant_length, rates_form, section_count, section_start, week_demand,
-    write_mounted, write_rates, write_shape,
+    PlantFile, RateList, plant_length, section_count, section_start, write_mounted, write_shape,
 };
-use rules::is_shut;
+use rules::Candidate;
+use rules::week::is_shut;
 use sections::{Refusal, Shape, area};
 
 // Whether k is from 1 to one less than the weeks.
 fn has_weeks_left(f: Shape, k: u64) -> bool
     ensures { result ≡ weeks_left f.weeks k }
 {
-    if k < 1 {
-        return false;
-    }
-    if k < wide(f.weeks) {
-        return true;
-    }
-    false
+    (1..u64::from(f.weeks)).contains(&k)
 }
 
-// Whether no backlog after the first k weeks exceeds what a plant file may have at its opening. The plant stands in the promise alone.
-fn is_backlog_carried(plant: &[u8], plan: &[u8], f: Shape, k: usize) -> bool
-    requires { Judged plant.now plan.now f k × (1 ≤ k) }
-    ensures { result ≡ backlog_carried (plant_of f plant.now) (plan_of f plan.now) k }
-{
-    let pairs = area(f.customers, f.products);
-    let mut pair = 0;
-    while pair < pairs {
-        let is_over = plant_file::MOST_OPENING_BACKLOG < pair_backlog(plan, f, pair, k - 1);
-        if is_over {
-            return false;
+// A plan that passes and its plant, how many of its weeks have run, and the rates of the weeks that are left.
+#[derive(Clone, Copy)]
+struct Rolled<'a> {
+    files: Candidate<'a>,
+    rates: RateList<'a>,
+    weeks: usize,
+    ghost some: { 1 ≤ weeks },
+    ghost left: { weeks < files.plant.shape.weeks },
+    ghost listed: { rates.shape ≡ files.plant.shape },
+}
+
+impl Rolled<'_> {
+    ghost use Rattle.std.specs.Prelude.{[], ◌++◌, ◌+◌, ◌*◌, ◌/◌, ◌%◌, ◌-◌, length, get_or};
+    ghost use Rattle.numbers.specs.Number.{encode, store};
+    ghost use Rattle.contents.specs.File.{start};
+    ghost use Rattle.sections.specs.Section.{grid, cube};
+    ghost use Rattle.plant_file.specs.Form.{plant_lengths};
+    ghost use Rattle.plant_file.specs.File.{plant_bodies, plant_file};
+    ghost use Rattle.model.specs.Rolled.{backlog_carried};
+    ghost use Rattle.calls.specs.Answer.{bytes};
+    ghost use Rattle.rolling.specs.Left.{left_shape, left_plant};
+
+    // Whether no backlog after the weeks that have run exceeds what a plant file may have at its opening.
+    fn is_backlog_carried(self) -> bool
+        ensures { let x = self.entry.files in result ≡ backlog_carried (plant_in x.plant) (plan_in x.plan) self.entry.weeks }
+    {
+        let f = self.files.plant.shape;
+        for pair in 0..area(f.customers, f.products) {
+            let is_over = plant_file::MOST_OPENING_BACKLOG < self.backlog(pair);
+            if is_over {
+                return false;
+            }
         }
-        pair += 1;
+        true
     }
-    true
-}
 
-// The shape of the plant that is left.
-fn rolled_shape(f: Shape, k: usize) -> Shape
-    requires { k ≤ f.weeks }
-    ensures { result ≡ rolled_shape f k }
-{
-    Shape {
-        kind: 4,
-        products: f.products,
-        customers: f.customers,
-        weeks: f.weeks - k as u8,
+    // A pair's backlog after these weeks.
+    fn backlog(self, pair: usize) -> u64
+        requires { pair < self.files.plant.shape.customers * self.files.plant.shape.products }
+        ensures { let f = self.entry.files.plant.shape in
+            result ≡ (plan_in self.entry.files.plan).backlog (pair / f.products) (pair % f.products) (self.entry.weeks - 1) }
+    {
+        self.files
+            .plan
+            .pair_number(PairTable::Backlog, pair, self.weeks - 1)
     }
-}
 
-// Stores a pair's demand of the weeks from k on.
-fn write_demand_row(out: &mut [u8], plant: &[u8], f: Shape, k: usize, pair: usize)
-    requires { (plant_form plant.now ≡ Ok f) × (k ≤ f.weeks) × (pair < f.customers * f.products) × (4 * (f.weeks - k) ≤ length out.old) }
-    ensures { out.new ≡ store out.old 0
-        (encode 4 (f.weeks - k) (λ w. (plant_of f plant.now).demand (pair / f.products) (pair % f.products) (k + w))) }
-{
-    let left = as_usize(f.weeks) - k;
-    let row = demand_row(plant, f, pair);
-    let mut week = 0;
-    while week < left {
-        write(out, 4 * week, 4, week_demand(plant, f, row, k + week));
-        week += 1;
+    // The shape of the plant that is left.
+    fn shape(self) -> Shape
+        ensures { result ≡ left_shape self.entry }
+    {
+        let f = self.files.plant.shape;
+        Shape {
+            kind: 4,
+            products: f.products,
+            customers: f.customers,
+            weeks: f.weeks - self.weeks as u8,
+        }
     }
-}
 
-// Stores section 5, pair by pair.
-fn write_demand(out: &mut [u8], plant: &[u8], f: Shape, k: usize)
-    requires { (plant_form plant.now ≡ Ok f) × (k ≤ f.weeks) × (4 * (f.customers * f.products * (f.weeks - k)) ≤ length out.old) }
-    ensures { out.new ≡ store out.old 0
-        (cube 4 f.customers f.products (f.weeks - k) (λ c i w. (plant_of f plant.now).demand c i (k + w))) }
-{
-    let pairs = area(f.customers, f.products);
-    let size = 4 * (as_usize(f.weeks) - k);
-    let mut p = 0;
-    let mut pair = 0;
-    while pair < pairs {
-        write_demand_row(&mut out[p..], plant, f, k, pair);
-        p += size;
-        pair += 1;
+    // Stores a pair's demand of the weeks that are left.
+    fn write_demand_row(self, out: &mut [u8], pair: usize)
+        requires { (pair < self.files.plant.shape.customers * self.files.plant.shape.products)
+            × (4 * (self.files.plant.shape.weeks - self.weeks) ≤ length out.old) }
+        ensures { let p = plant_in self.entry.files.plant in out.new ≡ store out.old 0
+            (encode 4 (p.weeks - self.entry.weeks) (λ w. p.demand (pair / p.products) (pair % p.products) (self.entry.weeks + w))) }
+    {
+        let plant = self.files.plant;
+        let row = plant.demand_row(pair);
+        for week in 0..usize::from(plant.shape.weeks) - self.weeks {
+            let demand = plant.week_demand(row, self.weeks + week);
+            write(out, 4 * week, 4, demand);
+        }
     }
-}
 
-// Stores the inventory after the first k weeks.
-fn write_inventory(out: &mut [u8], plan: &[u8], f: Shape, k: usize)
-    requires { (plan_form f plan.now ≡ Ok f) × (1 ≤ k) × (k < f.weeks) × (4 * f.products ≤ length out.old) }
-    ensures { out.new ≡ store out.old 0 (encode 4 f.products ((plan_of f plan.now).inventory (k - 1))) }
-{
-    let products = as_usize(f.products);
-    let mut product = 0;
-    while product < products {
-        write(out, 4 * product, 4, inventory(plan, f, k - 1, product));
-        product += 1;
+    // Stores section 5, pair by pair.
+    fn write_demand(self, out: &mut [u8])
+        requires { let f = self.files.plant.shape in 4 * (f.customers * f.products * (f.weeks - self.weeks)) ≤ length out.old }
+        ensures { let p = plant_in self.entry.files.plant in out.new ≡ store out.old 0
+            (cube 4 p.customers p.products (p.weeks - self.entry.weeks) (λ c i w. p.demand c i (self.entry.weeks + w))) }
+    {
+        let f = self.files.plant.shape;
+        let size = 4 * (usize::from(f.weeks) - self.weeks);
+        for pair in 0..area(f.customers, f.products) {
+            self.write_demand_row(&mut out[size * pair..], pair);
+        }
     }
-}
 
-// Stores the backlog after the first k weeks.
-fn write_backlog(out: &mut [u8], plan: &[u8], f: Shape, k: usize)
-    requires { (plan_form f plan.now ≡ Ok f) × (1 ≤ k) × (k < f.weeks) × (4 * (f.customers * f.products) ≤ length out.old) }
-    ensures { out.new ≡ store out.old 0
-        (grid 4 f.customers f.products (λ c i. (plan_of f plan.now).backlog c i (k - 1))) }
-{
-    let pairs = area(f.customers, f.products);
-    let mut pair = 0;
-    while pair < pairs {
-        write(out, 4 * pair, 4, pair_backlog(plan, f, pair, k - 1));
-        pair += 1;
+    // Stores the inventory after the weeks that have run.
+    fn write_inventory(self, out: &mut [u8])
+        requires { 4 * self.files.plant.shape.products ≤ length out.old }
+        ensures { out.new ≡ store out.old 0
+            (encode 4 self.entry.files.plant.shape.products ((plan_in self.entry.files.plan).inventory (self.entry.weeks - 1))) }
+    {
+        for product in 0..usize::from(self.files.plant.shape.products) {
+            let held = self.files.plan.inventory(self.weeks - 1, product);
+            write(out, 4 * product, 4, held);
+        }
     }
-}
 
-// Stores section 10: inventory, then backlog.
-fn write_opening(out: &mut [u8], plan: &[u8], f: Shape, k: usize)
-    requires { (plan_form f plan.now ≡ Ok f) × (1 ≤ k) × (k < f.weeks) × (4 * ((1 + f.customers) * f.products) ≤ length out.old) }
-    ensures { out.new ≡ store out.old 0
-        (encode 4 f.products ((plan_of f plan.now).inventory (k - 1))
-        ++ grid 4 f.customers f.products (λ c i. (plan_of f plan.now).backlog c i (k - 1))) }
-{
-    write_inventory(out, plan, f, k);
-    let at = 4 * as_usize(f.products);
-    write_backlog(&mut out[at..], plan, f, k);
-}
+    // Stores the backlog after them.
+    fn write_backlog(self, out: &mut [u8])
+        requires { 4 * (self.files.plant.shape.customers * self.files.plant.shape.products) ≤ length out.old }
+        ensures { let f = self.entry.files.plant.shape in out.new ≡ store out.old 0
+            (grid 4 f.customers f.products (λ c i. (plan_in self.entry.files.plan).backlog c i (self.entry.weeks - 1))) }
+    {
+        let f = self.files.plant.shape;
+        for pair in 0..area(f.customers, f.products) {
+            write(out, 4 * pair, 4, self.backlog(pair));
+        }
+    }
 
-// 1 if a week is shut, else 0.
-fn shut_mark(plan: &[u8], f: Shape, week: usize) -> u64
-    requires { (plan_form f plan.now ≡ Ok f) × (week < f.weeks) }
-    ensures { result ≡ cond (shut f.products (week_of (plan_of f plan.now).line week)) 1 0 }
-{
-    if is_shut(plan, f, week) { 1 } else { 0 }
-}
+    // Stores section 10: inventory, then backlog.
+    fn write_opening(self, out: &mut [u8])
+        requires { 4 * ((1 + self.files.plant.shape.customers) * self.files.plant.shape.products) ≤ length out.old }
+        ensures { let f = self.entry.files.plant.shape in let x = plan_in self.entry.files.plan in out.new ≡ store out.old 0
+            (encode 4 f.products (x.inventory (self.entry.weeks - 1))
+            ++ grid 4 f.customers f.products (λ c i. x.backlog c i (self.entry.weeks - 1))) }
+    {
+        self.write_inventory(out);
+        let at = 4 * usize::from(self.files.plant.shape.products);
+        self.write_backlog(&mut out[at..]);
+    }
 
-// Stores the body in a place at the start of what is lent.
-fn write_body(
-    out: &mut [u8],
-    plant: &[u8],
-    plan: &[u8],
-    f: Shape,
-    k: usize,
-    rates: &[u8],
-    place: usize,
-)
-    requires { Rollable f plant.now plan.now k rates.now × (place < 12) × (get_or (plant_lengths (rolled_shape f k)) place 0 ≤ length out.old) }
-    ensures { out.new ≡ store out.old 0
-        (get_or (plant_bodies (rolled_in f plant.now plan.now k rates.now)) place []) }
-{
-    if place == plant_file::SHAPE {
-        return write_shape(out, rolled_shape(f, k));
+    // What is mounted after them.
+    fn mounted(self) -> u64
+        ensures { result ≡ (left_plant self.entry).line.mounted }
+    {
+        let Candidate { plant, plan } = self.files;
+        let mounted = mounted_product(plant.bytes, plan.bytes, plant.shape, self.weeks);
+        mounted_number(mounted)
     }
-    if place == plant_file::RATE {
-        return write_rates(out, rates, as_usize(f.products));
-    }
-    if place == plant_file::DEMAND {
-        return write_demand(out, plant, f, k);
-    }
-    if place == plant_file::OPENING {
-        return write_opening(out, plan, f, k);
-    }
-    if place == plant_file::MOUNTED {
-        let mounted = mounted_number(mounted_product(plant, plan, f, k));
-        return write_mounted(out, mounted, shut_mark(plan, f, k - 1));
-    }
-    copy_body(out, plant, f, place)
-}
 
-// Stores the plant file: its contents, then each body in its own stretch of the output.
-fn write_file(out: &mut [u8], plant: &[u8], plan: &[u8], f: Shape, k: usize, rates: &[u8])
-    requires { Rollable f plant.now plan.now k rates.now × (start (plant_lengths (rolled_shape f k)) 12 ≤ length out.old) }
-    ensures { out.new ≡ store out.old 0
-        (plant_file (rolled_in f plant.now plan.now k rates.now)) }
-{
-    let g = rolled_shape(f, k);
-    plant_file::write_contents(out, g);
-    let sections = section_count(g);
-    let mut place = 0;
-    while place < sections {
-        let at = section_start(g, place);
-        write_body(&mut out[at..], plant, plan, f, k, rates, place);
-        place += 1;
+    // 1 if the last of them is shut, else 0.
+    fn shut_before(self) -> u64
+        ensures { result ≡ (left_plant self.entry).line.shut_before }
+    {
+        u64::from(is_shut(self.files.plan, self.weeks - 1))
     }
-}
 
-// Writes the file, and says its length.
-fn write_plant(
-    out: &mut [u8],
-    plant: &[u8],
-    plan: &[u8],
-    f: Shape,
-    k: usize,
-    rates: &[u8],
-    size: usize,
-) -> Result<usize, Refusal>
-    requires { Rollable f plant.now plan.now k rates.now × (start (plant_lengths (rolled_shape f k)) 12 ≤ length out.old) }
-    ensures { (result ≡ Ok size) × (out.new ≡ store out.old 0
-        (plant_file (rolled_in f plant.now plan.now k rates.now))) }
-{
-    write_file(out, plant, plan, f, k, rates);
-    Ok(size)
-}
-
-// Rolls on where the output has room for the file.
-fn roll_rates(
-    out: &mut [u8],
-    plant: &[u8],
-    plan: &[u8],
-    f: Shape,
-    k: usize,
-    rates: &[u8],
-) -> Result<usize, Refusal>
-    requires { Rollable f plant.now plan.now k rates.now }
-    ensures result { result ≡ written_in (bytes (plant_file (rolled_in f plant.now plan.now k rates.now))) out.old }
-    ensures output { out.new
-        ≡ output_after (bytes (plant_file (rolled_in f plant.now plan.now k rates.now))) out.old }
-{
-    let size = plant_length(rolled_shape(f, k));
-    if out.len() < size {
-        return Err(Refusal::OutputLength);
+    // Stores the body in a place at the start of what is lent.
+    fn write_body(self, out: &mut [u8], place: usize)
+        requires { (place < 12) × (get_or (plant_lengths (left_shape self)) place 0 ≤ length out.old) }
+        ensures { out.new ≡ store out.old 0 (get_or (plant_bodies (left_plant self.entry)) place []) }
+    {
+        match place {
+            plant_file::SHAPE => write_shape(out, self.shape()),
+            plant_file::RATE => self.rates.write(out),
+            plant_file::DEMAND => self.write_demand(out),
+            plant_file::OPENING => self.write_opening(out),
+            plant_file::MOUNTED => write_mounted(out, self.mounted(), self.shut_before()),
+            _ => self.files.plant.copy_body(out, place),
+        }
     }
-    write_plant(out, plant, plan, f, k, rates, size)
+
+    // Stores the plant file: its contents, then each body in its own stretch of the output.
+    fn write_file(self, out: &mut [u8])
+        requires { start (plant_lengths (left_shape self)) 12 ≤ length out.old }
+        ensures { out.new ≡ store out.old 0 (plant_file (left_plant self.entry)) }
+    {
+        let g = self.shape();
+        plant_file::write_contents(out, g);
+        for place in 0..section_count(g) {
+            let at = section_start(g, place);
+            self.write_body(&mut out[at..], place);
+        }
+    }
+
+    // Writes the file, and says its length.
+    fn write_plant(self, out: &mut [u8]) -> Result<usize, Refusal>
+        requires { start (plant_lengths (left_shape self)) 12 ≤ length out.old }
+        ensures { (result ≡ Ok (start (plant_lengths (left_shape self.entry)) 12)) × (out.new ≡ store out.old 0 (plant_file (left_plant self.entry))) }
+    {
+        self.write_file(out);
+        Ok(plant_length(self.shape()))
+    }
+
+    // Writes the plant, where the output has room for it.
+    fn write_left(self, out: &mut [u8]) -> Result<usize, Refusal>
+        ensures result { result ≡ written_in (bytes (plant_file (left_plant self.entry))) out.old }
+        ensures output { out.new ≡ output_after (bytes (plant_file (left_plant self.entry))) out.old }
+    {
+        if out.len() < plant_length(self.shape()) {
+            return Err(Refusal::OutputLength);
+        }
+        self.write_plant(out)
+    }
 }
 
 // What follows the plan's checks: k, the rates, the backlog, and the room.
-fn roll_passed(
-    out: &mut [u8],
-    plant: &[u8],
-    plan: &[u8],
-    f: Shape,
-    k: u64,
-    rates: &[u8],
-) -> Result<usize, Refusal>
-    requires { (plant_form plant.now ≡ Ok f) × (plan_form f plan.now ≡ Ok f) }
-    ensures result { result ≡ written_in (roll_passed f plant.now plan.now k rates.now) out.old }
-    ensures output { out.new
-        ≡ output_after (roll_passed f plant.now plan.now k rates.now) out.old }
+fn roll_passed(out: &mut [u8], files: Candidate, k: u64, rates: &[u8]) -> Result<usize, Refusal>
+    ensures result { let x = files.entry in
+        result ≡ written_in (roll_passed x.plant.shape x.plant.bytes.now x.plan.bytes.now k rates.now) out.old }
+    ensures output { let x = files.entry in
+        out.new ≡ output_after (roll_passed x.plant.shape x.plant.bytes.now x.plan.bytes.now k rates.now) out.old }
 {
-    if !has_weeks_left(f, k) {
+    if !has_weeks_left(files.plant.shape, k) {
         return Err(Refusal::WeeksLeft);
     }
-    rates_form(rates, f)?;
-    let weeks = k as usize;
-    if !is_backlog_carried(plant, plan, f, weeks) {
+    let rates = RateList::read(rates, files.plant.shape)?;
+    let rolled = Rolled {
+        files,
+        rates,
+        weeks: k as usize,
+    };
+    if !rolled.is_backlog_carried() {
         return Err(Refusal::OpeningBacklog);
     }
-    roll_rates(out, plant, plan, f, weeks, rates)
+    rolled.write_left(out)
 }
 
 // The plant file of the weeks after the first k, with the rates of a list, at the start of the output: its length, or the number of the first
@@ -277,6 +249,9 @@ pub fn roll(
     ensures output { out.new
         ≡ output_after (roll_answer plant.now plan.now k rates.now) out.old }
 {
-    let passed = judge_files(plant, plan)?;
-    roll_passed(out, plant, plan, passed.shape, k, rates)
+    let plant = PlantFile::read(plant)?;
+    let plan = PlanFile::read(plan, plant.shape)?;
+    let files = Candidate { plant, plan };
+    files.judge()?;
+    roll_passed(out, files, k, rates)
 }

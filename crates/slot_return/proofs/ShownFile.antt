@@ -13,20 +13,22 @@ use Rattle.mathematics.proofs.Join.{join_first, join_length, even_length}
 use Rattle.mathematics.proofs.OrderTheorem.{order_length}
 use Rattle.numbers.specs.Number.{digits, encode, store}
 use Rattle.numbers.proofs.Number.{encode_ext}
+use Rattle.numbers.proofs.Store.{store_join, part_store}
 use Rattle.contents.specs.File.{start, contents_bytes}
 use Rattle.contents.proofs.FileStored.{first_bodies, all_stored, contents_first, stretch_stored}
 use Rattle.contents.proofs.FileWritten.{file_length as laid-length}
 use Rattle.sections.specs.Section.{cube}
 use Rattle.sections.specs.declared.Shape.{Shape}
-use Rattle.plan_file.specs.Plan.{plan_of}
+use Rattle.plan_file.specs.Accepted.{plan_in}
 use Rattle.slot_file.specs.Form.{slot_lengths}
 use Rattle.slot_file.specs.File.{slot_bytes, slot_bodies, slot_file}
 use Rattle.slot_file.proofs.SlotBytes.{bytes_length}
 use Rattle.slot_file.proofs.FileIsSlots.{body_lengths}
 use Rattle.rules.specs.Rules.{week_of}
 use Rattle.model.specs.Match.{slots_for, line_shown, slots_shown}
-use Rattle.passed_plan.specs.Shown.{week_count, week_product, week_slots, shown_in}
-use Rattle.slot_return.specs.Bodies.{body_of}
+use Rattle.passed_plan.specs.Shown.{week_count, week_product}
+use Rattle.slot_return.specs.declared.ShownSlots.{ShownSlots}
+use Rattle.slot_return.specs.Bodies.{slots_in, count_in, week_in, body_in, file_in}
 
 -- ---- the slots of an order
 order_slots : (minutes : ℕ → ℕ) (ps : List ℕ) → length (slots_for minutes ps) ≡ length ps
@@ -40,84 +42,96 @@ order_bytes minutes zero product = refl
 order_bytes minutes (suc n) product =
     rw (order_bytes minutes n (λ k. product (suc k)), join_first n (λ k. digits 1 (product k) ++ digits 2 (minutes (product k))))
 
--- the bytes of slot k of week w
-abbrev pub slot_of : Shape → List ℕ → ℕ → ℕ → List ℕ
-slot_of f s w k = digits 1 (week_product f s w k) ++ digits 2 ((plan_of f s).line.minutes w (week_product f s w k))
+-- one more of the bodies that stand behind each other, stored at the start of the stretch that is lent
+pub join_stored : (body : ℕ → List ℕ) (i at : ℕ) (first out lent : List ℕ) {bytes : List ℕ} → out ≡ store first 0 (join_below i body)
+    → length (join_below i body) ≡ at → at ≤ length out → bytes ≡ body i → lent ≡ store (mid_of at (length out - at) out) 0 bytes
+    → put_mid at (length out - at) out lent ≡ store first 0 (join_below (i + 1) body)
+join_stored body i at first out lent o a l b e =
+    ap (put_mid at (length out - at) out) (e ∙ ap (store (mid_of at (length out - at) out) 0) b)
+    ∙ (part_store out at (body i) l ∙ (ap (λ (s : List ℕ). store s at (body i)) o ∙ store_join i body first at a))
 
-pub slot_bytes_lem : (f : Shape) (s : List ℕ) (w k product minutes : ℕ) → product ≡ week_product f s w k → minutes ≡ (plan_of f s).line.minutes w product
-    → digits 1 product ++ digits 2 minutes ≡ slot_of f s w k
-slot_bytes_lem f s w k product minutes p m = rw (m, p)
+module _ (x : ShownSlots) where
+  abbrev f : Shape
+  f = x.plan.shape
 
-pub places_length : (f : Shape) (s : List ℕ) (w k : ℕ) → length (join_below k (slot_of f s w)) ≡ 3 * k
-places_length f s w k = even_length k 3 (slot_of f s w) (λ i. refl) ∙ mul_comm k 3
+  abbrev product_in : (w k : ℕ) → ℕ
+  product_in = week_product f x.plan.bytes.now
 
-module _ (f : Shape) (s : List ℕ) where
-  week_length : (w : ℕ) → length (week_slots f s w) ≡ week_count f s w
+  abbrev minutes_in : (w product : ℕ) → ℕ
+  minutes_in = (plan_in x.plan).line.minutes
+
+  -- ---- the bytes of slot k of week w
+  abbrev pub slot_in : (w k : ℕ) → List ℕ
+  slot_in w k = digits 1 (product_in w k) ++ digits 2 (minutes_in w (product_in w k))
+
+  pub slot_is : (w k : ℕ) {product minutes : ℕ} → product ≡ product_in w k → minutes ≡ minutes_in w product
+      → digits 1 product ++ digits 2 minutes ≡ slot_in w k
+  slot_is w k p m = rw (m, p)
+
+  pub places_length : (w k : ℕ) → length (join_below k (slot_in w)) ≡ 3 * k
+  places_length w k = even_length k 3 (slot_in w) (λ i. refl) ∙ mul_comm k 3
+
+  -- ---- those of a week, and of the weeks
+  week_length : (w : ℕ) → length (week_in x w) ≡ count_in x w
   unfolding slots_shown line_shown week_count
   week_length w =
-      order_slots ((plan_of f s).line.minutes w) (order_of f.products (week_of (plan_of f s).line w))
-      ∙ order_length f.products (week_of (plan_of f s).line w)
+      order_slots (minutes_in w) (order_of f.products (week_of (plan_in x.plan).line w))
+      ∙ order_length f.products (week_of (plan_in x.plan).line w)
 
-  pub week_bytes : (w : ℕ) → slot_bytes (week_slots f s w) ≡ join_below (week_count f s w) (slot_of f s w)
+  pub week_bytes : (w : ℕ) → slot_bytes (week_in x w) ≡ join_below (count_in x w) (slot_in w)
   unfolding slots_shown line_shown week_count week_product order_of
-  week_bytes w =
-      order_bytes ((plan_of f s).line.minutes w) (week_count f s w) (week_product f s w)
+  week_bytes w = order_bytes (minutes_in w) (count_in x w) (product_in w)
 
-  pub weeks_length : (n : ℕ) → length (join_below n (λ w. slot_bytes (week_slots f s w))) ≡ 3 * sum_below n (week_count f s)
+  pub weeks_length : (n : ℕ) → length (join_below n (λ w. slot_bytes (week_in x w))) ≡ 3 * sum_below n (count_in x)
   weeks_length n =
       join_length n _
-      ∙ (sum_ext n _ (λ w. week_count f s w * 3) (λ w l. bytes_length (week_slots f s w) ∙ ap (λ (x : ℕ). x * 3) (week_length w))
-      ∙ (sum_mul n (week_count f s) 3 ∙ mul_comm (sum_below n (week_count f s)) 3))
+      ∙ (sum_ext n _ (λ w. count_in x w * 3) (λ w l. bytes_length (week_in x w) ∙ ap (λ (n : ℕ). n * 3) (week_length w))
+      ∙ (sum_mul n (count_in x) 3 ∙ mul_comm (sum_below n (count_in x)) 3))
 
   -- the slots of a week stand within those of all
-  pub weeks_room : (w : ℕ) → w < f.weeks → sum_below w (week_count f s) + week_count f s w ≤ sum_below f.weeks (week_count f s)
-  weeks_room w l = sum_prefix f.weeks (week_count f s) (suc w) l
+  pub weeks_room : (w : ℕ) → w < f.weeks → (sum_below w (count_in x) + count_in x w ≤ x.total) × (x.total ≤ 65025)
+  weeks_room w l = (omega (arith, sum_prefix f.weeks (count_in x) (suc w) l, x.counted), x.few)
 
   -- ---- the bodies
-  pub counts_body : encode 1 f.weeks (week_count f s) ≡ body_of f s 0
+  pub counts_body : encode 1 f.weeks (count_in x) ≡ body_in x 0
   unfolding slot_bodies slots_shown
   counts_body = encode_ext 1 f.weeks _ _ (λ w l. sym (week_length w))
 
-  pub sales_body : cube 4 f.customers f.products f.weeks (plan_of f s).sales ≡ body_of f s 2
+  pub sales_body : cube 4 f.customers f.products f.weeks (plan_in x.plan).sales ≡ body_in x 2
   unfolding slot_bodies slots_shown
   sales_body = refl
 
-  pub lengths : map length (slot_bodies f (shown_in f s)) ≡ slot_lengths f (sum_below f.weeks (week_count f s))
-  lengths =
-      body_lengths f (shown_in f s) ∙ ap (slot_lengths f) (sum_ext f.weeks _ (week_count f s) (λ w l. week_length w))
+  listed : map length (slot_bodies f (slots_in x)) ≡ slot_lengths f x.total
+  listed =
+      body_lengths f (slots_in x) ∙ ap (slot_lengths f) (sum_ext f.weeks _ (count_in x) (λ w l. week_length w) ∙ sym x.counted)
 
-  pub file_length : length (slot_file f (shown_in f s)) ≡ start (slot_lengths f (sum_below f.weeks (week_count f s))) 3
+  pub file_length : length (file_in x) ≡ start (slot_lengths f x.total) 3
   unfolding slot_file slot_bodies
-  file_length = laid-length 3 41 (slot_bodies f (shown_in f s)) ∙ ap (λ (l : List ℕ). start l 3) lengths
+  file_length = laid-length 3 41 (slot_bodies f (slots_in x)) ∙ ap (λ (l : List ℕ). start l 3) listed
+
+  -- where the bodies begin
+  pub starts : (start (slot_lengths f x.total) 0 ≡ 29)
+      × (start (slot_lengths f x.total) 1 ≡ start (slot_lengths f x.total) 0 + f.weeks)
+      × (start (slot_lengths f x.total) 2 ≡ start (slot_lengths f x.total) 1 + 3 * x.total)
+      × (start (slot_lengths f x.total) 3 ≡ start (slot_lengths f x.total) 2 + 4 * (f.customers * f.products * f.weeks))
+  unfolding start
+  starts = (omega arith, omega arith, omega arith, omega arith)
 
   -- ---- the file, section by section: the contents and the first i bodies
   abbrev pub first_of : ℕ → List ℕ
-  first_of = first_bodies 3 41 (slot_bodies f (shown_in f s))
+  first_of = first_bodies 3 41 (slot_bodies f (slots_in x))
 
-  pub file_stored : first_of 3 ≡ slot_file f (shown_in f s)
+  pub file_stored : first_of 3 ≡ file_in x
   unfolding slot_file slot_bodies
-  file_stored = all_stored 3 41 (slot_bodies f (shown_in f s))
+  file_stored = all_stored 3 41 (slot_bodies f (slots_in x))
 
-  module _ (total : ℕ) (t : total ≡ sum_below f.weeks (week_count f s)) where
-    listed : map length (slot_bodies f (shown_in f s)) ≡ slot_lengths f total
-    listed = lengths ∙ ap (slot_lengths f) (sym t)
+  pub contents_stored : contents_bytes 3 41 (slot_lengths f x.total) ≡ first_of 0
+  contents_stored = contents_first 3 41 (slot_bodies f (slots_in x)) (slot_lengths f x.total) listed
 
-    pub contents_stored : contents_bytes 3 41 (slot_lengths f total) ≡ first_of 0
-    contents_stored = contents_first 3 41 (slot_bodies f (shown_in f s)) (slot_lengths f total) listed
-
-    -- body i, stored in the stretch that is lent from its start on
-    pub body_next : (i at : ℕ) (first out lent : List ℕ) → out ≡ store first 0 (first_of i) → at ≡ start (slot_lengths f total) i
-        → at ≤ length out → lent ≡ store (mid_of at (length out - at) out) 0 (body_of f s i)
-        → put_mid at (length out - at) out lent ≡ store first 0 (first_of (i + 1))
-    body_next i at first out lent o a l e =
-        ap (put_mid at (length out - at) out) e
-        ∙ stretch_stored 3 41 (slot_bodies f (shown_in f s)) (slot_lengths f total) listed first out i at o a l
-
--- where the bodies begin
-pub starts : (f : Shape) (total : ℕ)
-    → (start (slot_lengths f total) 0 ≡ 29)
-    × (start (slot_lengths f total) 1 ≡ start (slot_lengths f total) 0 + f.weeks)
-    × (start (slot_lengths f total) 2 ≡ start (slot_lengths f total) 1 + 3 * total)
-    × (start (slot_lengths f total) 3 ≡ start (slot_lengths f total) 2 + 4 * (f.customers * f.products * f.weeks))
-unfolding start
-starts f total = (omega arith, omega arith, omega arith, omega arith)
+  -- body i, stored in the stretch that is lent from its start on
+  pub body_next : (i at : ℕ) (first out lent : List ℕ) → out ≡ store first 0 (first_of i) → at ≡ start (slot_lengths f x.total) i
+      → at ≤ length out → lent ≡ store (mid_of at (length out - at) out) 0 (body_in x i)
+      → put_mid at (length out - at) out lent ≡ store first 0 (first_of (i + 1))
+  body_next i at first out lent o a l e =
+      ap (put_mid at (length out - at) out) e
+      ∙ stretch_stored 3 41 (slot_bodies f (slots_in x)) (slot_lengths f x.total) listed first out i at o a l

@@ -1,9 +1,24 @@
--- The bodies of the file of the slots that a plan shows. Assumes nothing.
+-- The slots that a plan shows, their file and its bodies. Assumes nothing.
 use Rattle.std.specs.Prelude.{ℕ, List, [], get_or}
-use Rattle.sections.specs.declared.Shape.{Shape}
-use Rattle.slot_file.specs.File.{slot_bodies}
-use Rattle.passed_plan.specs.Shown.{shown_in}
+use Rattle.slot_file.specs.Slots.{Slot, Slots}
+use Rattle.slot_file.specs.File.{slot_bodies, slot_file}
+use Rattle.passed_plan.specs.Shown.{week_count, shown_in}
+use Rattle.slot_return.specs.declared.ShownSlots.{ShownSlots}
+
+abbrev pub slots_in : ShownSlots → Slots
+slots_in x = shown_in x.plan.shape x.plan.bytes.now
+
+-- how many a week has
+abbrev pub count_in : ShownSlots → ℕ → ℕ
+count_in x = week_count x.plan.shape x.plan.bytes.now
+
+-- those of a week
+abbrev pub week_in : ShownSlots → ℕ → List Slot
+week_in x w = (slots_in x).line.week w
 
 -- the body in a place
-abbrev pub body_of : Shape → (plan : List ℕ) → ℕ → List ℕ
-body_of f plan i = get_or (slot_bodies f (shown_in f plan)) i []
+abbrev pub body_in : ShownSlots → ℕ → List ℕ
+body_in x i = get_or (slot_bodies x.plan.shape (slots_in x)) i []
+
+abbrev pub file_in : ShownSlots → List ℕ
+file_in x = slot_file x.plan.shape (slots_in x)

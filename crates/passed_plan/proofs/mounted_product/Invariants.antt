@@ -1,6 +1,5 @@
 -- `passed_plan::mounted_product` meets its contract: the loop has looked at the products below `product`. Assumes nothing.
 use mathlib.Core.Path.{◌≡◌}
-use Prim.Native.Nat.{◌-◌, ◌≤◌}
 use Rattle.plant_file.specs.Plant.{plant_of}
 use Rattle.plan_file.specs.Plan.{plan_of}
 use Rattle.rules.specs.Rules.{mounted_after}
@@ -9,7 +8,4 @@ use Rattle.passed_plan.proofs.mounted_product.Given as goal
 
 abbrev pub invariant-loop-product : goal.invariant-loop-product
 invariant-loop-product l =
-    (l.product ≤ l.n) × (l.found ≡ mounted_of l.product (mounted_after (plant_of l.f l.plant).line (plan_of l.f l.plan).line l.weeks))
-
-abbrev pub decreases-loop-product : goal.decreases-loop-product
-decreases-loop-product l = l.n - l.product
+    l.found ≡ mounted_of l.product (mounted_after (plant_of l.fn.f l.fn.plant).line (plan_of l.fn.f l.fn.plan).line l.weeks)

@@ -1,10 +1,10 @@
 -- `report::report_text` meets its contract. Assumes nothing.
 use native.Mathlib.Omega.{arith}
-use mathlib.Core.Path.{◌≡◌, sym}
+use mathlib.Core.Path.{◌≡◌, refl, sym}
 use mathlib.Core.List.{append-nil}
 use Rattle.std.specs.Prelude.{Err, Ok}
 use Rattle.passed_plan.specs.Judgement.{judgement_of}
-use Rattle.passed_plan.proofs.PassedPlan.{judged_passing}
+use Rattle.passed_plan.proofs.PassedPlan.{Passing, judged_passing}
 use Rattle.calls.specs.Check.{check_of}
 use Rattle.report.specs.Report.{first_line, report_text}
 use Rattle.report.proofs.StoredText.{stored_both}
@@ -18,22 +18,31 @@ passed : (c : After-write_first-at) → let a = c.args in
     judgement_of a.plant.now a.plan.now ≡ Ok c.in-Ok.passed
 passed c = sym c.in-Ok.ensures
 
+passing : (c : After-write_first-at) → let a = c.args in let p = c.in-Ok.passed in Passing p.shape a.plant.now a.plan.now p.profit
+passing c = judged_passing c.args.plant.now c.args.plan.now c.in-Ok.passed (passed c)
+
 facts : (c : After-write_first-at) → PassedText c.in-Ok.passed.shape c.args.plant.now c.args.plan.now
-facts c =
-    let a = c.args in
-    passed_text _ a.plant.now a.plan.now _ (λ i. (c.type_inv.plan i).fits)
-    (judged_passing a.plant.now a.plan.now _ (passed c))
+facts c = passed_text _ c.args.plant.now c.args.plan.now _ (λ i. (c.type_inv.plan i).fits) (passing c)
+
+pub invariant_of-write_weeks : goal.invariant_of-write_weeks
+invariant_of-write_weeks c =
+    record { accepted = (passing (goal.at.invariant_of-write_weeks c).After-write_first-at).plant_good; octets = λ i. (c.type_inv.plant i).fits }
+
+pub invariant_of-write_weeks-in-Ok : goal.invariant_of-write_weeks-in-Ok
+invariant_of-write_weeks-in-Ok c =
+    record { accepted = (passing (goal.at.invariant_of-write_weeks-in-Ok c).After-write_first-at).plan_good; octets = λ i. (c.type_inv.plan i).fits }
+
+pub invariant_of-write_weeks-in-Ok-2 : goal.invariant_of-write_weeks-in-Ok-2
+invariant_of-write_weeks-in-Ok-2 c =
+    record { same = refl; ordered = (facts (goal.at.invariant_of-write_weeks-in-Ok-2 c).After-write_first-at).ordered }
 
 pub write_weeks-requires : goal.write_weeks-requires
 write_weeks-requires c =
-    let profit = c.in-Ok.passed.profit in (
-      (facts (goal.at.write_weeks-requires c).After-write_first-at).ready,
-      omega (
-        arith,
-        (facts (goal.at.write_weeks-requires c).After-write_first-at).most,
-        c.write_first-at.ensures.end,
-        first_most (Ok profit),
-      ),
+    omega (
+      arith,
+      (facts (goal.at.write_weeks-requires c).After-write_first-at).most,
+      c.write_first-at.ensures.end,
+      first_most (Ok c.in-Ok.passed.profit),
     )
 
 pub returns-in-Err : goal.returns-in-Err

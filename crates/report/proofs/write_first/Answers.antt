@@ -1,4 +1,5 @@
 -- `report::write_first` meets its contract. Assumes nothing.
+use borrow.Author.Rules.{rules}
 use mathlib.Core.Path.{◌∙◌}
 use native.Mathlib.Omega.{arith}
 use mir.Syntax.{w64}
@@ -24,7 +25,7 @@ pub returns-in-Ok : goal.returns-in-Ok
 returns-in-Ok c =
     let w = c.write_signed-q in
     let out = c.args.out.now in
-    let signed = rw (to_z-of_z w64 c.in-Ok.profit.0 (record { sfits = c.struct_told-1.given.0.1 })) at w.ensures in
+    let signed = rw (to_z-of_z w64 c.in-Ok.profit.0 (record { sfits = search rules })) at w.ensures in
     let both = stored_both {s = out} (omega arith) c.write_bytes-p.ensures signed in
     rw (c.in-Ok.is, ← passed_line c.in-Ok.profit) (stored_both (omega arith) both c.write_byte.ensures)
 

@@ -1,48 +1,51 @@
 -- `report::write_signed` meets its contract. Assumes nothing.
 use native.Mathlib.Omega.{arith}
-use mathlib.Core.Path.{◌≡◌, sym, ap, ◌∙◌}
-use mathlib.Core.List.{◌∷◌}
+use mathlib.Core.Path.{◌≡◌, ap}
+use mathlib.Core.List.{◌++◌}
 use Prim.Native.Nat.{ℕ}
+use lib.ListN.{length, length-append}
 use lib.IntN.{nat_abs}
 use mir.Syntax.{w64}
+use mir.Val.{of_z, to_z}
 use mir.ValLaws.{to_z-of_z}
 use Rattle.report.specs.Text.{decimal, signed_decimal}
-use Rattle.report.proofs.StoredText.{stored_both}
-use Rattle.report.proofs.Signs.{below_zero, from_zero}
+use Rattle.report.specs.Stored.{Stored}
+use Rattle.report.proofs.StoredText.{stored_none, stored_both}
+use Rattle.report.proofs.Signs.{sign, signed_text, sign_below, sign_from}
 use Rattle.report.proofs.write_signed.Goals as goal
-use Rattle.report.proofs.write_signed.Goals.{After-magnitude, After-magnitude-2}
+use Rattle.report.proofs.write_signed.Goals.{Joined-z-lt0, then-z-lt0, else-z-lt0}
 
-minus : (c : After-magnitude) → signed_decimal c.args.z ≡ 45 ∷ decimal c.magnitude.result
-minus c =
+module _ (c : Joined-z-lt0) where
+  same : to_z w64 (of_z w64 c.args.z) ≡ c.args.z
+  same = to_z-of_z w64 c.args.z c.ranges.z
+
+  sign_stored : let a = c.args in Stored a.out.now a.at (sign a.z) c.if-z-lt0.digits c.if-z-lt0.out
+  sign_stored = let z = c.args.z in elim c.if-z-lt0.branch [
+    | then-z-lt0 w ↦ rw (w.out-is, w.digits-is, sign_below z (rw same at w.if-z-lt0.true)) w.write_byte-digits.ensures
+    | else-z-lt0 w ↦ rw (w.out-is, w.digits-is, sign_from z (rw same at w.if-z-lt0.false)) (stored_none c.args.out.now c.args.at)
+  ]
+
+  whole : (n : ℕ) → n ≡ nat_abs (to_z w64 (of_z w64 c.args.z)) → signed_decimal c.args.z ≡ sign c.args.z ++ decimal n
+  whole n e = rw (e, same) (signed_text c.args.z)
+
+pub write_byte-digits-requires : goal.write_byte-digits-requires
+write_byte-digits-requires c =
     let z = c.args.z in
-    let fits = c.ranges.z in
-    let size = c.magnitude.ensures ∙ ap nat_abs (to_z-of_z w64 z fits) in
-    (below_zero z fits c.if-z-lt0.true).text ∙ ap (λ (n : ℕ). 45 ∷ decimal n) (sym size)
-
-plain : (c : After-magnitude-2) → signed_decimal c.args.z ≡ decimal c.magnitude-2.result
-plain c =
-    let z = c.args.z in
-    let fits = c.ranges.z in
-    rw (c.magnitude-2.ensures, to_z-of_z w64 z fits) (from_zero z fits c.if-z-lt0.false)
-
-pub write_byte-p-requires : goal.write_byte-p-requires
-write_byte-p-requires c =
-    omega (arith, rw (below_zero c.args.z c.ranges.z c.if-z-lt0.true).text at c.requires)
-
-pub returns-then-z-lt0 : goal.returns-then-z-lt0
-returns-then-z-lt0 c =
-    let b = c.write_byte-p in
-    let out = c.args.out.now in
-    rw (minus (goal.at.returns-then-z-lt0 c).After-magnitude) (stored_both {s = out} (omega arith) b.ensures c.write_decimal.ensures)
+    let below = sign_below z (rw (to_z-of_z w64 z c.ranges.z) at c.if-z-lt0.true) in
+    let size = rw (signed_text z, below) at c.requires in
+    omega arith
 
 pub write_decimal-requires : goal.write_decimal-requires
 write_decimal-requires c =
-    omega (arith, rw (minus (goal.at.write_decimal-requires c).After-magnitude) at c.requires)
-
-pub write_decimal-requires-2 : goal.write_decimal-requires-2
-write_decimal-requires-2 c =
-    rw (plain (goal.at.write_decimal-requires-2 c).After-magnitude-2) at c.requires
+    let d = (goal.at.write_decimal-requires c).Joined-z-lt0 in
+    omega (
+      arith,
+      (sign_stored d).end,
+      ap length (whole d c.unsigned_abs.result c.unsigned_abs.ensures.value),
+      length-append (sign c.args.z) (decimal c.unsigned_abs.result),
+    )
 
 pub returns : goal.returns
 returns c =
-    rw (plain (goal.at.returns c).After-magnitude-2) c.write_decimal-2.ensures
+    let d = (goal.at.returns c).Joined-z-lt0 in
+    rw (whole d c.unsigned_abs.result c.unsigned_abs.ensures.value) (stored_both {s = c.args.out.now} (omega arith) (sign_stored d) c.write_decimal.ensures)

@@ -196,7 +196,8 @@ impl Rolled<'_> {
     // Writes the file, and says its length.
     fn write_plant(self, out: &mut [u8]) -> Result<usize, Refusal>
         requires { start (plant_lengths (left_shape self)) 12 ≤ length out.old }
-        ensures { (result ≡ Ok (start (plant_lengths (left_shape self.entry)) 12)) × (out.new ≡ store out.old 0 (plant_file (left_plant self.entry))) }
+        ensures { (result ≡ Ok (start (plant_lengths (left_shape self.entry)) 12))
+            × (out.new ≡ store out.old 0 (plant_file (left_plant self.entry))) }
     {
         self.write_file(out);
         Ok(plant_length(self.shape()))

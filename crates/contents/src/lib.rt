@@ -7,17 +7,20 @@ ghost use Rattle.numbers.specs.Number.{store, digits};
 ghost use Rattle.contents.specs.Contents.{entry_at, entry, cell, numbers_right, headed, placed, sized, Inside};
 ghost use Rattle.contents.specs.File.{start, entry_bytes, contents_bytes, Listable};
 
+mod body_lengths;
+
+pub use body_lengths::BodyLengths;
 use numbers::{read, write};
 
 // A contents entry: a section's number, and where its body starts and how long it is.
 #[derive(Clone, Copy, Debug, PartialEq, Eq)]
 pub struct Entry {
     pub number: u64,
-    pub offset: u64,
-    pub length: u64,
+    pub offset: usize,
+    pub length: usize,
 }
 
-// A place in the contents of a file.
+// A place in the contents of a file: a slice and a position, as 01-scope names the form.
 #[derive(Clone, Copy)]
 pub struct Cursor<'a> {
     pub src: &'a [u8],
@@ -31,8 +34,8 @@ fn entry_at(s: &[u8], at: usize) -> Entry
     ensures { (result ≡ entry_at s.now at) × (result.number < 256) × (result.offset < 2 ^ 32) × (result.length < 2 ^ 32) }
 {
     let number = u64::from(s[at]);
-    let offset = read(s, at + 1, 4);
-    let length = read(s, at + 5, 4);
+    let offset = read(s, at + 1, 4) as usize;
+    let length = read(s, at + 5, 4) as usize;
     Entry {
         number,
         offset,
@@ -108,7 +111,7 @@ pub fn is_placed(s: &[u8], count: usize) -> bool
     requires { (2 + 9 * count ≤ length s.now) × (count < 256) }
     ensures { result ≡ placed s.now count }
 {
-    let mut end = (2 + 9 * count) as u64;
+    let mut end = 2 + 9 * count;
     for i in 0..count {
         let e = entry_in(s, i);
         if e.offset != end {
@@ -116,11 +119,11 @@ pub fn is_placed(s: &[u8], count: usize) -> bool
         }
         end += e.length;
     }
-    end == s.len() as u64
+    end == s.len()
 }
 
 // Rows 4, 13 and 23.
-pub fn is_sized(s: &[u8], lengths: &[u64]) -> bool
+pub fn is_sized(s: &[u8], lengths: &[usize]) -> bool
     requires { (2 + 9 * length lengths.now ≤ length s.now) × (length lengths.now < 256) }
     ensures { result ≡ sized s.now lengths.now }
 {
@@ -134,18 +137,17 @@ pub fn cell_in(s: &[u8], i: usize, k: usize, j: usize) -> u64
     ensures { result ≡ cell k s.now i j }
 {
     let e = entry_in(s, i);
-    let at = e.offset as usize;
-    read(s, at + k * j, k)
+    read(s, e.offset + k * j, k)
 }
 
 // Where the body in a place begins, of bodies with these lengths; after the last place, where the file ends.
-pub fn section_start(lengths: &[u64], place: usize) -> usize
+pub fn section_start(lengths: &[usize], place: usize) -> usize
     requires { (place ≤ length lengths.now) × (start lengths.now (length lengths.now) < 2 ^ 32) }
     ensures { (result ≡ start lengths.now place) × (result < 2 ^ 32) }
 {
     let mut at = 2 + 9 * lengths.len();
     for i in 0..place {
-        at += lengths[i] as usize;
+        at += lengths[i];
     }
     at
 }
@@ -161,15 +163,15 @@ fn write_entry(out: &mut [u8], number: u64, offset: u64, extent: u64)
 }
 
 // Stores the entries of sections with these lengths at the start of what is lent.
-fn write_entries(out: &mut [u8], first: u64, lengths: &[u64])
+fn write_entries(out: &mut [u8], first: u64, lengths: &[usize])
     requires { Listable first lengths.now × (9 * length lengths.now ≤ length out.old) }
     ensures { out.new ≡ store out.old 0 (join_below (length lengths.now) (entry_bytes first lengths.now)) }
 {
     let mut number = first;
-    let mut offset = (2 + 9 * lengths.len()) as u64;
+    let mut offset = 2 + 9 * lengths.len();
     let mut place = 0;
     for &extent in lengths {
-        write_entry(&mut out[place..], number, offset, extent);
+        write_entry(&mut out[place..], number, offset as u64, extent as u64);
         number += 1;
         offset += extent;
         place += 9;
@@ -177,7 +179,7 @@ fn write_entries(out: &mut [u8], first: u64, lengths: &[u64])
 }
 
 // Stores the contents of a file of this kind, its sections numbered from `first` and their bodies of these lengths.
-pub fn write_contents(out: &mut [u8], kind: u64, first: u64, lengths: &[u64])
+pub fn write_contents(out: &mut [u8], kind: u64, first: u64, lengths: &[usize])
     requires { Listable first lengths.now × (2 + 9 * length lengths.now ≤ length out.old) }
     ensures { out.new ≡ store out.old 0 (contents_bytes kind first lengths.now) }
 {

@@ -33,12 +33,13 @@ pub fn mounted_number(mounted: Option<u8>) -> u64
 }
 
 // 1 where a product is mounted, else 0: a number, since rule 33 and the tables add and multiply it.
+#[tactic(auto, unfolding(mathematics::specs::Below::is))]
 pub fn is_mounted(mounted: Option<u8>, product: usize) -> u64
     ensures { (result ≡ is_mounted mounted product) × (result < 2) }
 {
     match mounted {
         None => 0,
-        Some(p) => { if usize::from(p) == product { 1 } else { 0 } }
+        Some(p) => u64::from(usize::from(p) == product),
     }
 }
 

@@ -53,6 +53,7 @@ update_rows (suc m) n f l = update_row (m * n) n (f m) (update_rows m n f l)
 abbrev pub Outcome : Type 0
 Outcome = Result (Unit {0}) Refusal
 
+-- what a step gives: the state, and whether the run goes on or stops
 pub record Step : Type 0 where
   pub state : State
   pub outcome : Outcome
@@ -77,7 +78,7 @@ stop_or true n next = Err n
 stop_or false n next = next
 
 abbrev pub first_met : List Stop → Outcome
-first_met [] = (Ok tt)
+first_met [] = Ok tt
 first_met (t ∷ ts) = stop_or t.met t.refusal (first_met ts)
 
 -- the state as it was before a step that stops, else the one after it

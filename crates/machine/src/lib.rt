@@ -2,15 +2,11 @@
 // stop it is the state from before the step.
 #![tactic(auto)]
 
-ghost use Rattle.std.specs.Prelude.{◌≡◌, ◌+◌, ◌-◌, ◌^◌, ◌≤◌, ◌<◌, replicate, MatchResult};
-ghost use Rattle.plant_file.specs.Plant.{plant_of};
-ghost use Rattle.plant_file.specs.Form.{plant_form};
+ghost use Rattle.std.specs.Prelude.{◌≡◌, ◌^◌, ◌<◌, replicate};
 ghost use Rattle.plant_file.specs.Accepted.{plant_in};
-ghost use Rattle.slot_file.specs.Slots.{slots_of};
-ghost use Rattle.slot_file.specs.Form.{slot_form};
 ghost use Rattle.slot_file.specs.Row.{slot_of, slots_in};
 ghost use Rattle.machine.specs.Machine.{week_begin, clock_after, slot_stops, slot_done, slot_step, week_end};
-ghost use Rattle.machine.specs.State.{has_run, update_row, update_rows, first_met, continues, stops, step_of};
+ghost use Rattle.machine.specs.State.{has_run, update_row, update_rows, first_met, step_of};
 ghost use Rattle.machine.specs.Files.{BacklogAnswer, InventoryAnswer};
 ghost use Rattle.machine.specs.Row.{Runnable};
 ghost use Rattle.machine.specs.Run.{opening, run_slots, run_week, run};
@@ -18,7 +14,7 @@ ghost use Rattle.machine.specs.Bounds.{Sane, Roomy};
 
 use costs::{changeover_to, opening_mounted};
 use plant_file::PlantFile;
-use sections::{Refusal, Shape, area};
+use sections::{Refusal, area};
 use slot_file::{Slot, SlotFile};
 use units::{
     Grams, Minutes, PairGrams, ProductGrams, Profit, Rate, Thousandths, UnitCost, charge, gain,
@@ -331,7 +327,7 @@ fn opening_row(plant: PlantFile) -> ProductGrams
     ProductGrams(row)
 }
 
-// Section 10's backlog, pair by pair.
+// Section 10's backlog, pair by pair: apart from the inventory, since its numbers have 4 bytes in the state.
 #[tactic(auto, using(crate::proofs::Stores::row_stored, crate::proofs::Flat::rows_flat))]
 fn opening_table(plant: PlantFile) -> PairGrams
     ensures { let p = plant_in plant.entry in
@@ -378,24 +374,4 @@ impl RunInput<'_, '_> {
         }
         Ok(state)
     }
-}
-
-// ---- the same of bytes and a shape
-
-// The run of a slot file; the first stop ends it.
-pub fn run(plant: &[u8], slots: &[u8], f: Shape) -> Result<State, Stopped>
-    requires { (plant_form plant.now ≡ Ok f) × (slot_form f slots.now ≡ Ok f) }
-    ensures { step_of result ≡ run (plant_of f plant.now) (slots_of f slots.now) }
-{
-    RunInput {
-        plant: PlantFile {
-            bytes: plant,
-            shape: f,
-        },
-        slots: SlotFile {
-            bytes: slots,
-            shape: f,
-        },
-    }
-    .run()
 }

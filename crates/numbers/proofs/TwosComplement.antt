@@ -1,12 +1,9 @@
--- Two's complement of 8 bytes: there and back, and by the sign. Assumes nothing.
+-- Two's complement of 8 bytes: there and back. Assumes nothing.
 use Prim.Native.Nat.{ℕ, suc, ◌-◌, ◌<◌, ◌^◌}
 use mathlib.Core.Path.{◌≡◌, refl, ap, ◌∙◌}
 use mathlib.Core.Bool.{Bool, true, false, cond}
-use native.Mathlib.Omega.{arith}
-use borrow.Author.Tests.{ltb-true}
 use lib.Dec.{ltb}
 use lib.IntN.{ℤ, pos, negsuc}
-use lib.Signed.{mag, lt_z}
 use mir.Syntax.{w64}
 use mir.Val.{SFits, of_z, to_z, sel}
 use mir.ValLaws.{to_z-of_z, of_z-to_z, to_z-Fits, of_z_fits}
@@ -38,22 +35,3 @@ unsigned_below z h = rw (unsigned_is z) (of_z_fits w64 z h).fits
 
 pub signed_fits : (v : ℕ) → v < 2 ^ 64 → SFits w64 (signed_of v)
 signed_fits v h = rw (signed_is v) (to_z-Fits w64 v (record { fits = h }))
-
--- a number below 0, by its complement
-pub record Negative (z : ℤ) : Type 0 where
-  pub flipped : to_z w64 (18446744073709551615 - of_z w64 z) ≡ pos (mag z)
-  pub bits : 18446744073709551615 - mag z ≡ of_z w64 z
-
-pub negative : (z : ℤ) → SFits w64 z → lt_z (to_z w64 (of_z w64 z)) (pos 0) ≡ true → Negative z
-negative (pos n) f t = absurd (omega (arith, ltb-true n 0 (rw (to_z-of_z w64 (pos n) f) at t)))
-negative (negsuc n) f t =
-    let s : n < 2 ^ 63 = f.sfits in
-    let e : 18446744073709551615 - (2 ^ 64 - suc n) ≡ n = omega arith in
-    record { flipped = rw e (to_z-of_z w64 (pos n) (record { sfits = s })); bits = omega arith }
-
--- any other is its own size
-pub natural : (z : ℤ) → SFits w64 z → lt_z (to_z w64 (of_z w64 z)) (pos 0) ≡ false → z ≡ pos (mag z)
-natural (pos n) f t = refl
-natural (negsuc n) f t =
-    let e : true ≡ false = rw (to_z-of_z w64 (negsuc n) f) at t in
-    absurd (let z : ◌≡◌ {A = ℕ} 0 1 = cc in omega arith)

@@ -1,38 +1,8 @@
 // Little-endian numbers: read from the caller's bytes, and stored. The values are u64, the places usize.
 #![tactic(auto)]
 
-ghost use Rattle.std.specs.Prelude.{◌≡◌, ◌&&◌, ◌+◌, ◌*◌, ◌≤◌, ◌<◌, ◌^◌, length};
-ghost use Rattle.mathematics.specs.Below.{within};
+ghost use Rattle.std.specs.Prelude.{◌≡◌, ◌+◌, ◌≤◌, ◌<◌, ◌^◌, length};
 ghost use Rattle.numbers.specs.Number.{number_at, digits, store};
-ghost use Rattle.numbers.specs.Signed.{signed_of, unsigned_of};
-
-// Both of two tests.
-pub fn and(a: bool, b: bool) -> bool
-    ensures { result ≡ (a && b) }
-{
-    a && b
-}
-
-// lo ≤ x ≤ hi
-pub fn inside(lo: u64, hi: u64, x: u64) -> bool
-    ensures { result ≡ within lo hi x }
-{
-    (lo..=hi).contains(&x)
-}
-
-// A byte as a wider number. Its bound is part of the promise, so that no caller asks for it.
-pub fn wide(x: u8) -> u64
-    ensures { (result ≡ x) × (result < 256) }
-{
-    u64::from(x)
-}
-
-// A byte as a usize: a place or a count of places.
-pub fn as_usize(x: u8) -> usize
-    ensures { (result ≡ x) × (result < 256) }
-{
-    usize::from(x)
-}
 
 // The number of k bytes at a place: from the last byte, the greatest, to the first.
 pub fn read(s: &[u8], at: usize, k: usize) -> u64
@@ -56,20 +26,4 @@ pub fn write(out: &mut [u8], at: usize, k: usize, v: u64)
         *byte = (left % 256) as u8;
         left /= 256;
     }
-}
-
-// The signed number that a number of 8 bytes stands for.
-#[tactic(auto, using(crate::proofs::TwosComplement::signed_is))]
-pub fn signed(v: u64) -> i64
-    ensures { result ≡ signed_of v }
-{
-    v.cast_signed()
-}
-
-// The number of 8 bytes that stands for a signed number.
-#[tactic(auto, using(crate::proofs::TwosComplement::unsigned_is))]
-pub fn unsigned(z: i64) -> u64
-    ensures { result ≡ unsigned_of z }
-{
-    z.cast_unsigned()
 }

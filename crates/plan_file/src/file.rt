@@ -46,7 +46,7 @@ impl<'a> PlanFile<'a> {
         number_in(self.bytes, table.place(), table.width(), place)
     }
 
-    // E: whether a product is made in a week.
+    // The tables by the names that the rules have for them, one line each over `number`. E: whether a product is made in a week.
     pub fn assigned(self, week: usize, product: usize) -> u64
         requires { (week < self.shape.weeks) × (product < self.shape.products) }
         ensures { (result ≡ (plan_in self.entry).line.assigned week product) × (result < 2) }

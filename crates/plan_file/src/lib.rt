@@ -1,24 +1,21 @@
 // Plan files, kind 2: the rows of refusal, the numbers of each section, and the writing of them.
 #![tactic(auto)]
 
-ghost use Rattle.std.specs.Prelude.{◌≡◌, ◌/◌, ◌%◌, ◌*◌, ◌≤◌, ◌<◌, ◌^◌, length, get_or, Ok};
-ghost use Rattle.mathematics.specs.Below.{sum_below};
-ghost use Rattle.numbers.specs.Number.{store};
+ghost use Rattle.std.specs.Prelude.{◌≡◌, ◌≤◌, ◌<◌, ◌^◌, length, get_or};
 ghost use Rattle.contents.specs.Contents.{sized};
-ghost use Rattle.contents.specs.File.{start, contents_bytes};
-ghost use Rattle.sections.specs.Section.{Laid, cube};
-ghost use Rattle.plan_file.specs.Plan.{plan_of};
-ghost use Rattle.plan_file.specs.Tables.{product_table_of, product_place, product_width, most_of, changeover_table_of, changeover_place};
-ghost use Rattle.plan_file.specs.Tables.{pair_place, SumsOf};
-ghost use Rattle.sections.specs.Layout.{plan_kind, contents_length, layout};
+ghost use Rattle.contents.specs.File.{start};
+ghost use Rattle.sections.specs.Section.{Laid};
+ghost use Rattle.plan_file.specs.Tables.{product_place, product_width, changeover_place, pair_place};
+ghost use Rattle.sections.specs.Layout.{plan_kind, contents_length, layout, LengthsOf};
 ghost use Rattle.plan_file.specs.Form.{plan_layout, plan_lengths, binary, plan_form};
 
 mod file;
 
-use contents::{is_headed, is_placed, is_sized};
+use contents::{BodyLengths, is_headed, is_placed};
 pub use file::PlanFile;
 use sections::{Layout, Refusal, Shape, area, in_range, volume};
 
+// The file's kind: a number, as `contents` reads and writes it.
 const KIND: u64 = 2;
 
 const FIRST: u64 = 21;
@@ -79,16 +76,35 @@ pub fn layout(f: Shape, place: usize) -> Layout
     }
 }
 
-// The lengths of the bodies.
-fn body_lengths(f: Shape) -> [u64; 12]
+// The length of each body.
+fn lengths_of(f: Shape) -> [usize; 12]
     ensures { result ≡ plan_lengths f }
 {
     let mut lengths = [0; 12];
     for place in 0..SECTIONS {
         let x = layout(f, place);
-        lengths[place] = (x.width * (x.rows * x.columns)) as u64;
+        lengths[place] = x.width * (x.rows * x.columns);
     }
     lengths
+}
+
+// The lengths of the bodies of a plan file.
+pub fn body_lengths(f: Shape) -> BodyLengths
+    ensures { LengthsOf plan_kind (plan_lengths f) result }
+{
+    BodyLengths {
+        kind: KIND,
+        first: FIRST,
+        sections: SECTIONS,
+        lengths: lengths_of(f),
+    }
+}
+
+// The length of a plan file.
+pub fn plan_length(f: Shape) -> usize
+    ensures { (result ≡ start (plan_lengths f) plan_kind.sections) × (result < 2 ^ 32) }
+{
+    body_lengths(f).file_length()
 }
 
 // Row 13.
@@ -96,8 +112,7 @@ fn has_lengths(s: &[u8], f: Shape) -> bool
     requires { contents_length plan_kind ≤ length s.now }
     ensures { result ≡ sized s.now (plan_lengths f) }
 {
-    let lengths = body_lengths(f);
-    is_sized(s, &lengths)
+    body_lengths(f).is_sized(s)
 }
 
 // Row 14.
@@ -202,165 +217,9 @@ impl PairTable {
     }
 }
 
-// A week's sums of a table of changeovers, for at most 16 products: into each and out of it.
+// A week's sums of a table of changeovers, for at most 16 products: into each and out of it. Arrays of the most products: there is no heap.
 #[derive(Clone, Copy, Debug, PartialEq, Eq)]
 pub struct ArcSums {
     pub into: [u8; 16],
     pub out: [u8; 16],
-}
-
-// ---- the lengths and the contents of a plan file
-
-// Where the body in a place begins; after the last place, where the file ends.
-pub fn section_start(f: Shape, place: usize) -> usize
-    requires { place ≤ plan_kind.sections }
-    ensures { (result ≡ start (plan_lengths f) place) × (result < 2 ^ 32) }
-{
-    let lengths = body_lengths(f);
-    contents::section_start(&lengths, place)
-}
-
-// The length of a plan file.
-pub fn plan_length(f: Shape) -> usize
-    ensures { (result ≡ start (plan_lengths f) plan_kind.sections) × (result < 2 ^ 32) }
-{
-    section_start(f, SECTIONS)
-}
-
-// Stores the contents of a plan file.
-pub fn write_contents(out: &mut [u8], f: Shape)
-    requires { contents_length plan_kind ≤ length out.old }
-    ensures { out.new ≡ store out.old 0 (contents_bytes plan_kind.number plan_kind.first (plan_lengths f)) }
-{
-    let lengths = body_lengths(f);
-    contents::write_contents(out, KIND, FIRST, &lengths);
-}
-
-// ---- the same of bytes and a shape
-
-pub fn assigned(s: &[u8], f: Shape, week: usize, product: usize) -> u64
-    requires { (plan_form f s.now ≡ Ok f) × (week < f.weeks) × (product < f.products) }
-    ensures { (result ≡ (plan_of f s.now).line.assigned week product) × (result < 2) }
-{
-    PlanFile { bytes: s, shape: f }.assigned(week, product)
-}
-
-pub fn first(s: &[u8], f: Shape, week: usize, product: usize) -> u64
-    requires { (plan_form f s.now ≡ Ok f) × (week < f.weeks) × (product < f.products) }
-    ensures { (result ≡ (plan_of f s.now).line.first week product) × (result < 2) }
-{
-    PlanFile { bytes: s, shape: f }.first(week, product)
-}
-
-pub fn last(s: &[u8], f: Shape, week: usize, product: usize) -> u64
-    requires { (plan_form f s.now ≡ Ok f) × (week < f.weeks) × (product < f.products) }
-    ensures { (result ≡ (plan_of f s.now).line.last week product) × (result < 2) }
-{
-    PlanFile { bytes: s, shape: f }.last(week, product)
-}
-
-pub fn position(s: &[u8], f: Shape, week: usize, product: usize) -> u64
-    requires { (plan_form f s.now ≡ Ok f) × (week < f.weeks) × (product < f.products) }
-    ensures { (result ≡ (plan_of f s.now).line.position week product) × (result < 2 ^ 8) }
-{
-    PlanFile { bytes: s, shape: f }.position(week, product)
-}
-
-pub fn minutes(s: &[u8], f: Shape, week: usize, product: usize) -> u64
-    requires { (plan_form f s.now ≡ Ok f) × (week < f.weeks) × (product < f.products) }
-    ensures { (result ≡ (plan_of f s.now).line.minutes week product) × (result < 2 ^ 16) }
-{
-    PlanFile { bytes: s, shape: f }.minutes(week, product)
-}
-
-pub fn production(s: &[u8], f: Shape, week: usize, product: usize) -> u64
-    requires { (plan_form f s.now ≡ Ok f) × (week < f.weeks) × (product < f.products) }
-    ensures { (result ≡ (plan_of f s.now).production week product) × (result < 2 ^ 32) }
-{
-    PlanFile { bytes: s, shape: f }.production(week, product)
-}
-
-pub fn inventory(s: &[u8], f: Shape, week: usize, product: usize) -> u64
-    requires { (plan_form f s.now ≡ Ok f) × (week < f.weeks) × (product < f.products) }
-    ensures { (result ≡ (plan_of f s.now).inventory week product) × (result < 2 ^ 32) }
-{
-    PlanFile { bytes: s, shape: f }.inventory(week, product)
-}
-
-pub fn pair_sales(s: &[u8], f: Shape, pair: usize, week: usize) -> u64
-    requires { (plan_form f s.now ≡ Ok f) × (pair < f.customers * f.products) × (week < f.weeks) }
-    ensures { (result ≡ (plan_of f s.now).sales (pair / f.products) (pair % f.products) week) × (result < 2 ^ 32) }
-{
-    PlanFile { bytes: s, shape: f }.pair_number(PairTable::Sales, pair, week)
-}
-
-pub fn write_sales(out: &mut [u8], s: &[u8], f: Shape)
-    requires { (plan_form f s.now ≡ Ok f) × (4 * (f.customers * f.products * f.weeks) ≤ length out.old) }
-    ensures { out.new
-        ≡ store out.old 0 (cube 4 f.customers f.products f.weeks (plan_of f s.now).sales) }
-{
-    PlanFile { bytes: s, shape: f }.write_sales(out);
-}
-
-pub fn pair_backlog(s: &[u8], f: Shape, pair: usize, week: usize) -> u64
-    requires { (plan_form f s.now ≡ Ok f) × (pair < f.customers * f.products) × (week < f.weeks) }
-    ensures { (result ≡ (plan_of f s.now).backlog (pair / f.products) (pair % f.products) week) × (result < 2 ^ 32) }
-{
-    PlanFile { bytes: s, shape: f }.pair_number(PairTable::Backlog, pair, week)
-}
-
-pub fn profit(s: &[u8], f: Shape) -> i64
-    requires { plan_form f s.now ≡ Ok f }
-    ensures { result ≡ (plan_of f s.now).profit }
-{
-    PlanFile { bytes: s, shape: f }.profit()
-}
-
-pub fn product_number(s: &[u8], f: Shape, table: ProductTable, week: usize, product: usize) -> u64
-    requires { (plan_form f s.now ≡ Ok f) × (week < f.weeks) × (product < f.products) }
-    ensures { (result ≡ product_table_of table (plan_of f s.now) week product) × (result < 2 ^ 32) × (result < most_of table) }
-{
-    PlanFile { bytes: s, shape: f }.number(table, week, product)
-}
-
-pub fn week_sum(s: &[u8], f: Shape, table: ProductTable, week: usize) -> u64
-    requires { (plan_form f s.now ≡ Ok f) × (week < f.weeks) }
-    ensures { (result ≡ sum_below f.products (product_table_of table (plan_of f s.now) week)) × (result < 2 ^ 8 * most_of table) }
-{
-    PlanFile { bytes: s, shape: f }.week_sum(table, week)
-}
-
-pub fn arc_changeover(s: &[u8], f: Shape, table: ChangeoverTable, week: usize, arc: usize) -> u64
-    requires { (plan_form f s.now ≡ Ok f) × (week < f.weeks) × (arc < f.products * f.products) }
-    ensures { (result ≡ changeover_table_of table (plan_of f s.now).line week (arc / f.products) (arc % f.products)) × (result < 2) }
-{
-    PlanFile { bytes: s, shape: f }.arc_changeover(table, week, arc)
-}
-
-pub fn changeover(
-    s: &[u8],
-    f: Shape,
-    table: ChangeoverTable,
-    week: usize,
-    from: usize,
-    to: usize,
-) -> u64
-    requires { (plan_form f s.now ≡ Ok f) × (week < f.weeks) × (from < f.products) × (to < f.products) }
-    ensures { (result ≡ changeover_table_of table (plan_of f s.now).line week from to) × (result < 2) }
-{
-    PlanFile { bytes: s, shape: f }.changeover(table, week, from, to)
-}
-
-pub fn arc_sums(s: &[u8], f: Shape, table: ChangeoverTable, week: usize) -> ArcSums
-    requires { (plan_form f s.now ≡ Ok f) × (week < f.weeks) × (f.products ≤ 16) }
-    ensures { SumsOf f.products (changeover_table_of table (plan_of f s.now).line week) result }
-{
-    PlanFile { bytes: s, shape: f }.arc_sums(table, week)
-}
-
-pub fn sold(s: &[u8], f: Shape, week: usize, product: usize) -> u64
-    requires { (plan_form f s.now ≡ Ok f) × (week < f.weeks) × (product < f.products) }
-    ensures { (result ≡ sum_below f.customers (λ c. (plan_of f s.now).sales c product week)) × (result < 2 ^ 40) }
-{
-    PlanFile { bytes: s, shape: f }.sold(week, product)
 }

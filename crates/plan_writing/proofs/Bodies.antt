@@ -1,21 +1,21 @@
 -- Each body of a plan is its rows in file order, end to end. Assumes nothing.
 use Prim.Native.Nat.{ℕ, zero, suc, ◌*◌, ◌/◌, ◌%◌, ◌<◌}
 use mathlib.Core.Path.{◌≡◌, refl, sym, ap, ◌∙◌}
-use mathlib.Core.List.{List, [], ◌∷◌, map}
+use mathlib.Core.List.{List, [], ◌∷◌}
 use native.Mathlib.Omega.{arith}
 use lib.ListN.{length, get_or}
 use Rattle.mathematics.specs.Below.{join_below, list_below}
 use Rattle.mathematics.proofs.Join.{join_ext, join_table}
 use Rattle.mathematics.proofs.Lists.{list_at}
 use Rattle.numbers.specs.Number.{digits, encode}
-use Rattle.contents.proofs.FileStored.{first_bodies, all_stored}
+use Rattle.contents.proofs.FileLayout.{body_length as size_at}
 use Rattle.sections.specs.Section.{grid, cube}
 use Rattle.sections.specs.declared.Shape.{Shape}
 use Rattle.sections.proofs.Tables.{cube_rows}
 use Rattle.sections.proofs.Bodies.{rows_length}
 use Rattle.plan_file.specs.Plan.{Plan}
 use Rattle.plan_file.specs.Form.{plan_lengths}
-use Rattle.plan_file.specs.File.{plan_bodies, plan_file}
+use Rattle.plan_file.specs.File.{plan_bodies}
 use Rattle.plan_file.proofs.FileIsPlan.{bodies_lengths}
 use Rattle.plan_writing.specs.Bodies.{section_of, row_in}
 
@@ -76,19 +76,16 @@ week_rows f (suc (suc (suc (suc (suc (suc zero)))))) l = refl
 week_rows f (suc (suc (suc (suc (suc (suc (suc zero))))))) l = refl
 week_rows f (suc (suc (suc (suc (suc (suc (suc (suc place)))))))) l = absurd (omega arith)
 
-length_at : (bodies : List (List ℕ)) (place : ℕ) → length (get_or bodies place []) ≡ get_or (map length bodies) place 0
-length_at [] place = refl
-length_at (b ∷ bodies) zero = refl
-length_at (b ∷ bodies) (suc place) = length_at bodies place
+pub bodies_count : (f : Shape) (x : Plan) → length (plan_bodies f x) ≡ 12
+unfolding plan_bodies
+bodies_count f x = refl
 
--- and has the length of row 13
+-- each body has the length of row 13
+pub body_size : (f : Shape) (x : Plan) (place : ℕ) → length (get_or (plan_bodies f x) place []) ≡ get_or (plan_lengths f) place 0
+body_size f x place = sym (size_at (plan_bodies f x) place) ∙ ap (λ (n : List ℕ). get_or n place 0) (bodies_lengths f x)
+
 pub body_length : (f : Shape) (x : Plan) (place : ℕ) → place < 12
     → (section_of f place).rows * ((section_of f place).width * (section_of f place).columns) ≡ get_or (plan_lengths f) place 0
 body_length f x place l =
     sym (rows_length (section_of f place).width (section_of f place).columns (section_of f place).rows (row_in f x place))
-    ∙ (ap length (body_is f x place l) ∙ (length_at (plan_bodies f x) place ∙ ap (λ (n : List ℕ). get_or n place 0) (bodies_lengths f x)))
-
--- ---- all bodies one after the other
-pub file_last : (f : Shape) (x : Plan) → first_bodies 2 21 (plan_bodies f x) 12 ≡ plan_file f x
-unfolding plan_bodies plan_file
-file_last f x = all_stored 2 21 (plan_bodies f x)
+    ∙ (ap length (body_is f x place l) ∙ body_size f x place)

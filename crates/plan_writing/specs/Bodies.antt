@@ -1,5 +1,5 @@
 -- The rows of a plan's bodies, by place and in file order. Assumes nothing.
-use Rattle.std.specs.Prelude.{ℕ, ◌*◌, ◌/◌, ◌%◌, ◌<◌, ◌≡◌, List, [], ◌∷◌, length, get_or}
+use Rattle.std.specs.Prelude.{ℕ, ◌*◌, ◌/◌, ◌%◌, ◌<◌, ◌≡◌, List, [], ◌∷◌, get_or}
 use Rattle.mathematics.specs.Below.{sum_below}
 use Rattle.numbers.specs.Signed.{unsigned_of}
 use Rattle.sections.specs.Layout.{layout}
@@ -37,10 +37,6 @@ row_in f x place r j =
 -- a list that begins with n given numbers
 abbrev pub Shows : (n : ℕ) → (ℕ → ℕ) → List ℕ → Type 0
 Shows n g row = (j : ℕ) → j < n → get_or row j 0 ≡ g j
-
--- a row as the code has it, in an array of 26
-abbrev pub Row : (n : ℕ) → (ℕ → ℕ) → List ℕ → Type 0
-Row n g row = Shows n g row × (length row ≡ 26)
 
 -- what the slots of a week make of a product, and what is sold of it
 abbrev pub made_in : Shape → (plant slots : List ℕ) (week i : ℕ) → ℕ

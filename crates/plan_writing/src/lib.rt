@@ -13,13 +13,15 @@ ghost use Rattle.costs.specs.Mounted.{mounted_below};
 ghost use Rattle.model.specs.RunTables.{last_of, run_tables};
 ghost use Rattle.calls.specs.Answer.{plan_answer, written_in, output_after};
 ghost use Rattle.plan_writing.specs.Ran.{Ran, RunWeek, Cleared};
-ghost use Rattle.plan_writing.specs.Bodies.{section_of, Shows, Row, made_in, sold_in};
+ghost use Rattle.plan_writing.specs.Bodies.{section_of, Shows, made_in, sold_in};
 ghost use Rattle.plan_writing.specs.Line.{from_of, marked_from, marked_to, stride_in, mark_row, factor_in, amount_row};
 
+use calls::FileWriter;
+use contents::BodyLengths;
 use costs::opening_mounted;
-use machine::RunInput;
+use machine::{RunInput, opening_state};
 use numbers::write;
-use plan_file::{layout, plan_length, section_start};
+use plan_file::{layout, plan_length};
 use plant_file::PlantFile;
 use sections::{Refusal, Shape, area};
 use slot_file::{SlotFile, WeekRow};
@@ -138,17 +140,6 @@ fn mounted_after(row: WeekRow, mounted: Option<u8>) -> Option<u8>
     Some(row.product(row.count - 1) as u8)
 }
 
-// The opening inventory, product by product.
-fn opening_row(plant: PlantFile) -> [u64; 26]
-    ensures { Row plant.entry.shape.products (plant_in plant.entry).opening_inventory result }
-{
-    let mut row = [0; 26];
-    for i in 0..usize::from(plant.shape.products) {
-        row[i] = plant.opening_inventory(i);
-    }
-    row
-}
-
 // Adds what each slot of a week makes to the inventory of its product.
 fn add_production(inventory: &mut [u64], plant: PlantFile, row: WeekRow)
     requires { RunWeek row × (plant.shape.products ≡ row.file.shape.products) × (row.file.shape.products ≤ length inventory.old)
@@ -192,13 +183,10 @@ struct RanFiles<'a> {
 }
 
 impl RanFiles<'_> {
-    ghost use Rattle.std.specs.Prelude.{[], ◌/◌, ◌%◌, Ok};
-    ghost use Rattle.contents.specs.File.{start};
-    ghost use Rattle.sections.specs.Layout.{plan_kind};
+    ghost use Rattle.std.specs.Prelude.{[], ◌/◌, ◌%◌};
     ghost use Rattle.plan_file.specs.Form.{plan_lengths};
-    ghost use Rattle.plan_file.specs.File.{plan_bodies, plan_file};
+    ghost use Rattle.plan_file.specs.File.{plan_bodies};
     ghost use Rattle.model.specs.RunTables.{mounted_at};
-    ghost use Rattle.calls.specs.Answer.{bytes};
     ghost use Rattle.plan_writing.specs.Bodies.{row_in};
     ghost use Rattle.plan_writing.specs.Files.{ran_plant, ran_slots, tables_in};
 
@@ -278,7 +266,7 @@ impl RanFiles<'_> {
     {
         let f = self.slots.shape;
         let size = 4 * usize::from(f.products);
-        let mut inventory = opening_row(self.plant);
+        let mut inventory = opening_state(self.plant).inventory;
         let mut row = self.slots.first_row();
         for week in 0..usize::from(f.weeks) {
             add_production(&mut inventory, self.plant, row);
@@ -286,12 +274,29 @@ impl RanFiles<'_> {
             row = row.next();
         }
     }
+}
 
-    // Stores the body in a place at the start of what is lent.
-    fn write_body(self, out: &mut [u8], place: usize)
-        requires { (place < plan_kind.sections) × (get_or (plan_lengths self.slots.shape) place 0 ≤ length out.old) }
-        ensures { out.new ≡ store out.old 0 (get_or (plan_bodies self.entry.slots.shape (tables_in self.entry)) place []) }
-    {
+impl FileWriter for RanFiles<'_> {
+    ghost use Rattle.sections.specs.Layout.{plan_kind};
+    ghost use Rattle.plan_file.specs.File.{plan_bodies};
+    ghost use Rattle.plan_writing.specs.Files.{tables_in};
+
+    ghost kind = { plan_kind };
+
+    ghost bodies = { λ x. plan_bodies x.slots.shape (tables_in x) };
+
+    #[tactic(auto, using(plan_file::proofs::FileIsPlan::bodies_lengths))]
+    fn body_lengths(self) -> BodyLengths {
+        plan_file::body_lengths(self.slots.shape)
+    }
+
+    #[tactic(auto, using(plan_file::proofs::FileIsPlan::file_length), unfolding(plan_file::specs::File::plan_file))]
+    fn file_length(self) -> usize {
+        plan_length(self.slots.shape)
+    }
+
+    #[tactic(auto, using(crate::proofs::Bodies::bodies_count, crate::proofs::Bodies::body_size))]
+    fn write_body(self, out: &mut [u8], place: usize) {
         match place {
             plan_file::SALES => self.slots.write_sales(out),
             plan_file::INVENTORY => self.write_inventory(out),
@@ -299,39 +304,6 @@ impl RanFiles<'_> {
             plan_file::PROFIT => write(out, 0, 8, self.profit.0.cast_unsigned()),
             _ => self.write_line(out, place),
         }
-    }
-
-    // Stores the plan file: its contents, then each body in its own stretch of the output.
-    fn write_file(self, out: &mut [u8])
-        requires { start (plan_lengths self.slots.shape) plan_kind.sections ≤ length out.old }
-        ensures { out.new ≡ store out.old 0 (plan_file self.entry.slots.shape (tables_in self.entry)) }
-    {
-        plan_file::write_contents(out, self.slots.shape);
-        for place in 0..plan_file::SECTIONS {
-            let at = section_start(self.slots.shape, place);
-            self.write_body(&mut out[at..], place);
-        }
-    }
-
-    // Writes the file, and says its length.
-    fn write_plan(self, out: &mut [u8]) -> Result<usize, Refusal>
-        requires { start (plan_lengths self.slots.shape) plan_kind.sections ≤ length out.old }
-        ensures { let f = self.entry.slots.shape in (result ≡ Ok (start (plan_lengths f) plan_kind.sections))
-            × (out.new ≡ store out.old 0 (plan_file f (tables_in self.entry))) }
-    {
-        self.write_file(out);
-        Ok(plan_length(self.slots.shape))
-    }
-
-    // Writes the plan, where the output has room for it.
-    fn write_tables(self, out: &mut [u8]) -> Result<usize, Refusal>
-        ensures result { result ≡ written_in (bytes (plan_file self.entry.slots.shape (tables_in self.entry))) out.old }
-        ensures output { out.new ≡ output_after (bytes (plan_file self.entry.slots.shape (tables_in self.entry))) out.old }
-    {
-        if out.len() < plan_length(self.slots.shape) {
-            return Err(Refusal::OutputLength);
-        }
-        self.write_plan(out)
     }
 }
 
@@ -348,5 +320,5 @@ pub fn plan_writing(plant: &[u8], slots: &[u8], out: &mut [u8]) -> Result<usize,
         slots,
         profit: state.profit,
     }
-    .write_tables(out)
+    .write_where_room(out)
 }

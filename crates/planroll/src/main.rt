@@ -6,6 +6,7 @@ use files::{argument_count, deliver, large_buffer, named_number, read_named};
 use rolling::roll;
 use std::rt::{Env, Files};
 
+// Not by `files::run_call`, which is of calls of two files.
 #[tactic(auto, using(files::proofs::Delivered::delivered))]
 fn write_plant(rt: &(impl Env + Files + Print + Eprint), k: u64) {
     let plant = read_named(rt, 1);

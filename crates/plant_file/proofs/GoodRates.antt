@@ -2,13 +2,16 @@
 use Prim.Native.Nat.{ℕ, ◌*◌, ◌≤◌, ◌<◌}
 use mathlib.Core.Path.{◌≡◌, refl}
 use mathlib.Core.List.{List}
+use mathlib.Core.Logic.{◌⊎◌, inl, inr}
 use lib.ListN.{length}
 use lib.Dec.{eqb}
 use borrow.Author.Tests.{eqb-true, eq-eqb}
 use Rattle.mathematics.specs.Below.{all_below, within}
 use Rattle.mathematics.proofs.Below.{all_each, each_all, within_at, at_within}
 use Rattle.sections.specs.declared.Shape.{Shape}
-use Rattle.std.specs.Prelude.{Ok}
+use Rattle.sections.specs.declared.Refusal.{Refusal}
+use Rattle.std.specs.Prelude.{Err, Ok}
+use Rattle.sections.specs.Rows.{Form}
 use Rattle.sections.specs.Limits.{most_rate}
 use Rattle.sections.proofs.Rows.{row_good}
 use Rattle.plant_file.specs.Rates.{listed_rate, rates_form}
@@ -36,3 +39,11 @@ rates_pass f rates e h =
 -- the shape that a good one answers is the shape it was given
 pub rates_shape : (f g : Shape) (rates : List ℕ) → rates_form f rates ≡ Ok g → rates_form f rates ≡ Ok f
 rates_shape f g rates h = let r = rates_good f g rates h in rates_pass f rates r.0 r.1
+
+-- a list is good, with that shape, or it is refused
+pub rates_decided : (f : Shape) (rates : List ℕ) → (rates_form f rates ≡ Ok f) ⊎ ((n : Refusal) × (rates_form f rates ≡ Err n))
+rates_decided f rates = go (rates_form f rates) refl
+  where
+    go : (r : Form) → rates_form f rates ≡ r → (rates_form f rates ≡ Ok f) ⊎ ((n : Refusal) × (rates_form f rates ≡ Err n))
+    go (Ok g) e = inl (rates_shape f g rates e)
+    go (Err n) e = inr (n, e)

@@ -1,21 +1,15 @@
 -- The lengths of a plant's bodies are small. Assumes nothing.
-use Prim.Native.Nat.{ℕ, ◌+◌, ◌*◌, ◌≤◌}
-use mathlib.Core.Path.{◌≡◌, sym, ap, ◌∙◌}
+use Prim.Native.Nat.{◌*◌, ◌≤◌}
 use mathlib.Core.Bool.{Bool, true, false, cond}
-use mathlib.Core.List.{List, [], ◌∷◌}
+use mathlib.Core.List.{[], ◌∷◌}
 use native.Mathlib.Omega.{arith}
 use native.Mathlib.Nat.{mul-le-mul}
-use lib.ListN.{get_or}
-use lib.Seq.{get_or-take}
-use Rattle.mathematics.specs.Below.{sum_below}
-use Rattle.mathematics.proofs.Below.{sum_ext}
 use Rattle.contents.specs.File.{start, Listable}
 use Rattle.sections.specs.declared.Shape.{Shape}
 use Rattle.sections.specs.Layout.{layout, lengths_of}
 use Rattle.sections.proofs.Places.{Small, byte_most}
-use Rattle.plant_file.specs.Kinds.{plant_kind, has_mounted}
-use Rattle.plant_file.specs.Form.{layout_before, all_lengths, plant_lengths}
-use Rattle.plant_file.proofs.PlantKinds.{kind_lengths, kind_takes}
+use Rattle.plant_file.specs.Kinds.{has_mounted}
+use Rattle.plant_file.specs.Form.{layout_before, plant_lengths}
 
 -- counts of a byte, multiplied
 products : (f : Shape) → Small f

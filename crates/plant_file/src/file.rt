@@ -6,10 +6,10 @@ ghost use Rattle.plant_file.specs.Form.{plant_form};
 use crate::laid::LaidFile;
 use crate::{
     BACKLOG_COST, CHANGEOVER_CENTS, CHANGEOVER_MINUTES, DEMAND, INVENTORY_COST, NOTHING_MOUNTED,
-    OPENING, PRICE, RATE, STORAGE, TIME, copy_body, plant_form,
+    OPENING, PRICE, RATE, STORAGE, TIME, plant_form,
 };
-use contents::cell_in;
-use sections::{PairRow, Refusal, Shape, pair_number, pair_row};
+use contents::{cell_in, entry_in};
+use sections::{PairRow, Refusal, Shape, copy_section, pair_number, pair_row};
 
 // The bytes of a plant file and its shape. It passes rows 1 to 5.
 #[derive(Clone, Copy)]
@@ -78,7 +78,7 @@ impl<'a> PlantFile<'a> {
         .opening_byte(0, NOTHING_MOUNTED)
     }
 
-    // 1 if the week before the first was shut, else 0.
+    // 1 if the week before the first was shut, else 0: the number that section 12 has.
     pub fn shut_before(self) -> u64
         ensures { let p = plant_in self.entry in (result ≡ p.line.shut_before) × (result ≤ 1) }
     {
@@ -199,6 +199,7 @@ impl<'a> PlantFile<'a> {
         requires { (place < (plant_kind self.shape.kind).sections) × (get_or (plant_lengths self.shape) place 0 ≤ length out.old) }
         ensures { let p = plant_in self.entry in out.new ≡ store out.old 0 (get_or (plant_bodies p) place []) }
     {
-        copy_body(out, self.bytes, self.shape, place);
+        let e = entry_in(self.bytes, place);
+        copy_section(out, self.bytes, place, 1, e.length);
     }
 }

@@ -1,31 +1,28 @@
 // Plant files, kinds 1 and 4: the rows of refusal, the numbers of each section, and the writing of them; lists of rates.
 #![tactic(auto)]
 
-ghost use Rattle.std.specs.Prelude.{◌≡◌, ◌⊎◌, [], ◌++◌, ◌+◌, ◌*◌, ◌/◌, ◌%◌, ◌^◌, ◌≤◌, ◌<◌, length, get_or};
+ghost use Rattle.std.specs.Prelude.{◌≡◌, ◌++◌, ◌+◌, ◌*◌, ◌^◌, ◌≤◌, ◌<◌, length, get_or};
 ghost use Rattle.mathematics.specs.Below.{all_below, within};
 ghost use Rattle.numbers.specs.Number.{digits, encode, store};
 ghost use Rattle.contents.specs.Contents.{sized};
-ghost use Rattle.contents.specs.File.{start, contents_bytes};
+ghost use Rattle.contents.specs.File.{start};
 ghost use Rattle.sections.specs.Section.{Holds};
-ghost use Rattle.sections.specs.Limits.{most_rate, most_changeover_minutes, most_changeover_cents, most_demand, most_unit_cost, most_storage};
-ghost use Rattle.sections.specs.Limits.{most_opening_backlog, nothing_mounted, most_week_minutes};
-ghost use Rattle.plant_file.specs.Kinds.{plant_kind, has_mounted, contents_of};
-ghost use Rattle.plant_file.specs.Plant.{plant_of};
-ghost use Rattle.plant_file.specs.Rows.{DemandRow};
+ghost use Rattle.sections.specs.Limits.{most_rate};
+ghost use Rattle.sections.specs.Layout.{LengthsOf};
+ghost use Rattle.plant_file.specs.Kinds.{plant_kind, file_kind, has_mounted, contents_of};
 ghost use Rattle.plant_file.specs.Rates.{listed_rate, rates_form};
-ghost use Rattle.plant_file.specs.File.{plant_bodies};
 ghost use Rattle.plant_file.specs.Form.{shape_of, plant_headed, laid_out, in_limits, all_lengths, plant_lengths, mounted_known, plant_form};
 
 mod file;
 mod laid;
 mod rates;
 
-use contents::{entry_in, is_headed, is_placed, is_sized};
+use contents::{BodyLengths, entry_in, is_headed, is_placed};
 pub use file::PlantFile;
 use laid::LaidFile;
 use numbers::{read, write};
 pub use rates::RateList;
-use sections::{PairRow, Refusal, Shape, area, copy_section, volume};
+use sections::{Refusal, Shape, area, volume};
 
 const FIRST: u64 = 1;
 
@@ -156,7 +153,7 @@ fn shape_of(s: &[u8]) -> Shape
     requires { Holds s.now 0 1 3 }
     ensures { result ≡ shape_of s.now }
 {
-    let at = entry_in(s, SHAPE).offset as usize;
+    let at = entry_in(s, SHAPE).offset;
     Shape {
         kind: s[0],
         products: s[at],
@@ -175,14 +172,14 @@ fn is_in_limits(f: Shape) -> bool
         && (1..=MOST_WEEKS).contains(&u64::from(f.weeks))
 }
 
-// The lengths of the bodies of sections 1 to 12. A kind has the first of them, as many as it has sections.
-fn body_lengths(f: Shape) -> [u64; 12]
+// The length of each body of sections 1 to 12. A kind has the first of them, as many as it has sections.
+fn lengths_of(f: Shape) -> [usize; 12]
     ensures { result ≡ all_lengths f }
 {
-    let n = u64::from(f.products);
-    let nn = area(f.products, f.products) as u64;
-    let cn = area(f.customers, f.products) as u64;
-    let cnw = volume(f.customers, f.products, f.weeks) as u64;
+    let n = usize::from(f.products);
+    let nn = area(f.products, f.products);
+    let cn = area(f.customers, f.products);
+    let cnw = volume(f.customers, f.products, f.weeks);
     [
         3,
         4 * n,
@@ -199,15 +196,34 @@ fn body_lengths(f: Shape) -> [u64; 12]
     ]
 }
 
+// The lengths of the bodies of a plant file.
+pub fn body_lengths(f: Shape) -> BodyLengths
+    ensures { LengthsOf (file_kind f.kind) (plant_lengths f) result }
+{
+    let k = plant_kind(f.kind);
+    BodyLengths {
+        kind: k.number,
+        first: FIRST,
+        sections: k.sections,
+        lengths: lengths_of(f),
+    }
+}
+
+// The length of a plant file.
+#[tactic(auto, using(crate::proofs::PlantKinds::kind_lengths))]
+pub fn plant_length(f: Shape) -> usize
+    ensures { (result ≡ start (plant_lengths f) (plant_kind f.kind).sections) × (result < 2 ^ 32) }
+{
+    body_lengths(f).file_length()
+}
+
 // Row 4.
-#[tactic(auto, using(crate::proofs::PlantKinds::first_lengths, crate::proofs::PlantKinds::first_count, crate::proofs::PlantKinds::first_few))]
+#[tactic(auto, using(crate::proofs::PlantKinds::kind_lengths))]
 fn has_lengths(s: &[u8], f: Shape) -> bool
     requires { contents_of f.kind ≤ length s.now }
     ensures { result ≡ sized s.now (plant_lengths f) }
 {
-    let k = plant_kind(f.kind);
-    let lengths = body_lengths(f);
-    is_sized(s, &lengths[..k.sections])
+    body_lengths(f).is_sized(s)
 }
 
 // Whether a product is the plant's, or stands for none.
@@ -279,43 +295,6 @@ pub fn rates_form(rates: &[u8], f: Shape) -> Result<Shape, Refusal>
 
 // ---- The writing of a plant file: its contents, then each body at the start of its own stretch.
 
-// How many sections a kind has.
-#[tactic(auto, using(crate::proofs::PlantKinds::kind_sections))]
-pub fn section_count(f: Shape) -> usize
-    ensures { (result ≡ (plant_kind f.kind).sections) × (result ≤ 12) }
-{
-    plant_kind(f.kind).sections
-}
-
-// Where the body in a place begins; past the last, where the file ends.
-#[tactic(auto, using(crate::proofs::PlantKinds::first_lengths, crate::proofs::PlantKinds::first_count, crate::proofs::PlantKinds::first_few))]
-pub fn section_start(f: Shape, place: usize) -> usize
-    requires { place ≤ (plant_kind f.kind).sections }
-    ensures { (result ≡ start (plant_lengths f) place) × (result < 2 ^ 32) }
-{
-    let k = plant_kind(f.kind);
-    let lengths = body_lengths(f);
-    contents::section_start(&lengths[..k.sections], place)
-}
-
-// The length of a plant file.
-pub fn plant_length(f: Shape) -> usize
-    ensures { (result ≡ start (plant_lengths f) (plant_kind f.kind).sections) × (result < 2 ^ 32) }
-{
-    section_start(f, section_count(f))
-}
-
-// Stores the contents of a plant file.
-#[tactic(auto, using(crate::proofs::PlantKinds::first_lengths, crate::proofs::PlantKinds::first_count, crate::proofs::PlantKinds::first_few))]
-pub fn write_contents(out: &mut [u8], f: Shape)
-    requires { contents_of f.kind ≤ length out.old }
-    ensures { out.new ≡ store out.old 0 (contents_bytes (plant_kind f.kind).number 1 (plant_lengths f)) }
-{
-    let k = plant_kind(f.kind);
-    let lengths = body_lengths(f);
-    contents::write_contents(out, k.number, FIRST, &lengths[..k.sections]);
-}
-
 // Stores section 1.
 pub fn write_shape(out: &mut [u8], f: Shape)
     requires { 3 ≤ length out.old }
@@ -343,135 +322,4 @@ pub fn write_mounted(out: &mut [u8], product: u64, shut: u64)
 {
     write(out, 0, 1, product);
     write(out, 1, 1, shut);
-}
-
-// Stores the body in a place as a plant file has it. It takes the bytes by themselves: that each is below 256 is known of a parameter,
-// and not of a field.
-pub fn copy_body(out: &mut [u8], s: &[u8], f: Shape, place: usize)
-    requires { (plant_form s.now ≡ Ok f) × (place < (plant_kind f.kind).sections) × (get_or (plant_lengths f) place 0 ≤ length out.old) }
-    ensures { out.new ≡ store out.old 0 (get_or (plant_bodies (plant_of f s.now)) place []) }
-{
-    let e = entry_in(s, place);
-    copy_section(out, s, place, 1, e.length as usize);
-}
-
-// ---- the same of bytes and a shape
-
-pub fn rate(s: &[u8], f: Shape, product: usize) -> u64
-    requires { (plant_form s.now ≡ Ok f) × (product < f.products) }
-    ensures { (result ≡ (plant_of f s.now).line.rate product) × (1 ≤ result) × (result ≤ most_rate) }
-{
-    PlantFile { bytes: s, shape: f }.rate(product)
-}
-
-pub fn changeover_minutes(s: &[u8], f: Shape, arc: usize) -> u64
-    requires { (plant_form s.now ≡ Ok f) × (arc < f.products * f.products) }
-    ensures { (result ≡ (plant_of f s.now).line.changeover_minutes (arc / f.products) (arc % f.products)) × (result ≤ most_changeover_minutes) }
-{
-    PlantFile { bytes: s, shape: f }.changeover_minutes(arc)
-}
-
-pub fn changeover_cents(s: &[u8], f: Shape, arc: usize) -> u64
-    requires { (plant_form s.now ≡ Ok f) × (arc < f.products * f.products) }
-    ensures { (result ≡ (plant_of f s.now).line.changeover_cents (arc / f.products) (arc % f.products)) × (result ≤ most_changeover_cents) }
-{
-    PlantFile { bytes: s, shape: f }.changeover_cents(arc)
-}
-
-pub fn mounted(s: &[u8], f: Shape) -> u64
-    requires { plant_form s.now ≡ Ok f }
-    ensures { (result ≡ (plant_of f s.now).line.mounted) × ((result < f.products) ⊎ (result ≡ nothing_mounted)) }
-{
-    PlantFile { bytes: s, shape: f }.mounted()
-}
-
-pub fn shut_before(s: &[u8], f: Shape) -> u64
-    requires { plant_form s.now ≡ Ok f }
-    ensures { (result ≡ (plant_of f s.now).line.shut_before) × (result ≤ 1) }
-{
-    PlantFile { bytes: s, shape: f }.shut_before()
-}
-
-pub fn inventory_cost(s: &[u8], f: Shape, product: usize) -> u64
-    requires { (plant_form s.now ≡ Ok f) × (product < f.products) }
-    ensures { (result ≡ (plant_of f s.now).inventory_cost product) × (result ≤ most_unit_cost) }
-{
-    PlantFile { bytes: s, shape: f }.inventory_cost(product)
-}
-
-pub fn opening_inventory(s: &[u8], f: Shape, product: usize) -> u64
-    requires { (plant_form s.now ≡ Ok f) × (product < f.products) }
-    ensures { (result ≡ (plant_of f s.now).opening_inventory product) × (result ≤ most_storage) }
-{
-    PlantFile { bytes: s, shape: f }.opening_inventory(product)
-}
-
-pub fn least_storage(s: &[u8], f: Shape, product: usize) -> u64
-    requires { (plant_form s.now ≡ Ok f) × (product < f.products) }
-    ensures { (result ≡ (plant_of f s.now).least_storage product) × (result ≤ most_storage) }
-{
-    PlantFile { bytes: s, shape: f }.least_storage(product)
-}
-
-pub fn greatest_storage(s: &[u8], f: Shape, product: usize) -> u64
-    requires { (plant_form s.now ≡ Ok f) × (product < f.products) }
-    ensures { (result ≡ (plant_of f s.now).greatest_storage product) × (result ≤ most_storage) }
-{
-    PlantFile { bytes: s, shape: f }.greatest_storage(product)
-}
-
-pub fn shortest_run(s: &[u8], f: Shape) -> u64
-    requires { plant_form s.now ≡ Ok f }
-    ensures { (result ≡ (plant_of f s.now).shortest_run) × (1 ≤ result) × (result ≤ most_week_minutes) }
-{
-    PlantFile { bytes: s, shape: f }.shortest_run()
-}
-
-pub fn week_minutes(s: &[u8], f: Shape) -> u64
-    requires { plant_form s.now ≡ Ok f }
-    ensures { (result ≡ (plant_of f s.now).week_minutes) × (result ≤ most_week_minutes) }
-{
-    PlantFile { bytes: s, shape: f }.week_minutes()
-}
-
-pub fn demand_row(s: &[u8], f: Shape, pair: usize) -> PairRow
-    requires { (plant_form s.now ≡ Ok f) × (pair < f.customers * f.products) }
-    ensures { DemandRow f s.now result × (result.pair ≡ pair) }
-{
-    PlantFile { bytes: s, shape: f }.demand_row(pair)
-}
-
-pub fn week_demand(s: &[u8], f: Shape, row: PairRow, week: usize) -> u64
-    requires { DemandRow f s.now row × (week < f.weeks) }
-    ensures { (result ≡ (plant_of f s.now).demand (row.pair / f.products) (row.pair % f.products) week) × (result ≤ most_demand) }
-{
-    PlantFile { bytes: s, shape: f }.week_demand(row, week)
-}
-
-pub fn pair_demand(s: &[u8], f: Shape, pair: usize, week: usize) -> u64
-    requires { (plant_form s.now ≡ Ok f) × (pair < f.customers * f.products) × (week < f.weeks) }
-    ensures { (result ≡ (plant_of f s.now).demand (pair / f.products) (pair % f.products) week) × (result ≤ most_demand) }
-{
-    PlantFile { bytes: s, shape: f }.pair_demand(pair, week)
-}
-
-pub fn pair_price(s: &[u8], f: Shape, pair: usize) -> u64
-    requires { (plant_form s.now ≡ Ok f) × (pair < f.customers * f.products) }
-    ensures { (result ≡ (plant_of f s.now).price (pair / f.products) (pair % f.products)) × (result ≤ most_unit_cost) }
-{
-    PlantFile { bytes: s, shape: f }.pair_price(pair)
-}
-
-pub fn pair_backlog_cost(s: &[u8], f: Shape, pair: usize) -> u64
-    requires { (plant_form s.now ≡ Ok f) × (pair < f.customers * f.products) }
-    ensures { (result ≡ (plant_of f s.now).backlog_cost (pair / f.products) (pair % f.products)) × (result ≤ most_unit_cost) }
-{
-    PlantFile { bytes: s, shape: f }.pair_backlog_cost(pair)
-}
-
-pub fn pair_opening_backlog(s: &[u8], f: Shape, pair: usize) -> u64
-    requires { (plant_form s.now ≡ Ok f) × (pair < f.customers * f.products) }
-    ensures { (result ≡ (plant_of f s.now).opening_backlog (pair / f.products) (pair % f.products)) × (result ≤ most_opening_backlog) }
-{
-    PlantFile { bytes: s, shape: f }.pair_opening_backlog(pair)
 }

@@ -20,6 +20,7 @@ impl<'a> RateList<'a> {
     ghost use Rattle.plant_file.specs.Rates.{listed_rate};
 
     // The list of these bytes, or the number of its refusal.
+    #[tactic(auto, using(crate::proofs::GoodRates::rates_decided))]
     pub fn read(bytes: &'a [u8], shape: Shape) -> Result<RateList<'a>, Refusal>
         ensures { MatchResult result
             (λ rates. (rates.bytes.now ≡ bytes.now) × (rates.shape ≡ shape) × (rates_form shape bytes.now ≡ Ok shape))

@@ -38,7 +38,7 @@ abbrev pub lines_from : Shape → (plant plan : List ℕ) → ℕ → Mounted �
 lines_from f plant plan w m t k = slot_lines (plant_of f plant) w m t (drop k (week_slots f plan w))
 
 abbrev pub lines_in : PassedFiles → ℕ → Mounted → (t k : ℕ) → List ℕ
-lines_in files w m t k = lines_from files.plan.shape files.plant.bytes.now files.plan.bytes.now w m t k
+lines_in passed w m t k = let x = passed.files in lines_from x.plan.shape x.plant.bytes.now x.plan.bytes.now w m t k
 
 module _ (f : Shape) (plant plan : List ℕ) (w : ℕ) where
   week_drop : (k : ℕ) → k < week_count f plan w → drop k (week_slots f plan w)

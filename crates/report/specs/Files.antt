@@ -4,4 +4,4 @@ use Rattle.report.specs.Weeks.{week_text}
 use Rattle.report.specs.declared.PassedFiles.{PassedFiles}
 
 abbrev pub week_in : PassedFiles → ℕ → List ℕ
-week_in files w = week_text files.plan.shape files.plant.bytes.now files.plan.bytes.now w
+week_in passed w = let x = passed.files in week_text x.plan.shape x.plant.bytes.now x.plan.bytes.now w

@@ -13,6 +13,7 @@ use costs::changeover_to;
 use passed_plan::{judge_files, mounted_product, product_at, week_count};
 use plan_file::PlanFile;
 use plant_file::PlantFile;
+use rules::Candidate;
 use sections::Refusal;
 use units::Profit;
 
@@ -108,13 +109,11 @@ fn write_first(out: &mut [u8], check: Result<Profit, Refusal>) -> usize
     }
 }
 
-// A plant file, and a plan file that passes: in each week each slot has its product.
+// A plan file that passes, and the plant file of its plant: in each week each slot has its product.
 #[derive(Clone, Copy)]
-struct PassedFiles<'a, 'b> {
-    plant: PlantFile<'a>,
-    plan: PlanFile<'b>,
-    ghost same: { plant.shape ≡ plan.shape },
-    ghost ordered: { Ordered plan.shape plan.bytes.now },
+struct PassedFiles<'plant, 'plan> {
+    files: Candidate<'plant, 'plan>,
+    ghost ordered: { Ordered files.plan.shape files.plan.bytes.now },
 }
 
 impl PassedFiles<'_, '_> {
@@ -125,19 +124,18 @@ impl PassedFiles<'_, '_> {
 
     // A line for each slot of a week.
     fn write_week(self, out: &mut [u8], at: usize, week: usize) -> usize
-        requires { (week < self.plan.shape.weeks) × (at + length (week_in self week) ≤ length out.old) }
+        requires { (week < self.files.plan.shape.weeks) × (at + length (week_in self week) ≤ length out.old) }
         ensures { Stored out.old at (week_in self.entry week) result out.new }
     {
-        let plan = self.plan.bytes;
-        let f = self.plan.shape;
-        let mut mounted = mounted_product(self.plant.bytes, plan, f, week);
+        let Candidate { plant, plan } = self.files;
+        let mut mounted = mounted_product(self.files, week);
         let mut clock = 0;
         let mut p = at;
-        for k in 0..week_count(plan, f, week) {
-            let product = product_at(plan, f, week, k);
-            let change = changeover_to(self.plant, mounted, product).minutes.0;
+        for k in 0..week_count(plan, week) {
+            let product = product_at(plan, week, k);
+            let change = changeover_to(plant, mounted, product).minutes.0;
             let start = clock + change;
-            let end = start + self.plan.minutes(week, product);
+            let end = start + plan.minutes(week, product);
             p = write_line(out, p, week as u64 + 1, product as u64, change, start, end);
             mounted = Some(product as u8);
             clock = end;
@@ -146,11 +144,11 @@ impl PassedFiles<'_, '_> {
     }
 
     fn write_weeks(self, out: &mut [u8], at: usize) -> usize
-        requires { at + length (join_below self.plan.shape.weeks (week_in self)) ≤ length out.old }
-        ensures { Stored out.old at (join_below self.entry.plan.shape.weeks (week_in self.entry)) result out.new }
+        requires { at + length (join_below self.files.plan.shape.weeks (week_in self)) ≤ length out.old }
+        ensures { Stored out.old at (join_below self.entry.files.plan.shape.weeks (week_in self.entry)) result out.new }
     {
         let mut p = at;
-        for week in 0..usize::from(self.plan.shape.weeks) {
+        for week in 0..usize::from(self.files.plan.shape.weeks) {
             p = self.write_week(out, p, week);
         }
         p
@@ -167,14 +165,13 @@ pub fn report_text(plant: &[u8], plan: &[u8], out: &mut [u8; 16384]) -> usize
         Ok(passed) => {
             let at = write_first(out, Ok(passed.profit));
             let shape = passed.shape;
-            PassedFiles {
-                plant: PlantFile {
-                    bytes: plant,
-                    shape,
-                },
-                plan: PlanFile { bytes: plan, shape },
-            }
-            .write_weeks(out, at)
+            let plant = PlantFile {
+                bytes: plant,
+                shape,
+            };
+            let plan = PlanFile { bytes: plan, shape };
+            let files = Candidate { plant, plan };
+            PassedFiles { files }.write_weeks(out, at)
         }
     }
 }

@@ -2,16 +2,16 @@
 use Prim.Native.Nat.{ℕ, ◌-◌, ◌≤◌, ◌<◌}
 use mathlib.Core.Path.{◌≡◌, refl, sym, ap, ◌∙◌}
 use mathlib.Core.Logic.{◌≢◌}
-use mathlib.Core.List.{[], ◌++◌, map}
+use mathlib.Core.List.{List, [], ◌++◌, map}
 use lib.ListN.{length, get_or}
 use Rattle.mathematics.proofs.Below.{below_twelve}
 use Rattle.numbers.specs.Number.{encode}
+use Rattle.contents.specs.File.{start, file_of}
+use Rattle.contents.proofs.FileLayout.{body_length}
 use Rattle.sections.specs.Section.{grid}
 use Rattle.sections.specs.declared.Shape.{Shape}
-use Rattle.contents.specs.File.{start}
-use Rattle.contents.proofs.FileStored.{first_bodies, all_stored}
 use Rattle.plant_file.specs.Kinds.{plant_kind}
-use Rattle.plant_file.specs.Plant.{Plant, shape_of_plant}
+use Rattle.plant_file.specs.Plant.{Plant}
 use Rattle.plant_file.specs.Form.{plant_lengths}
 use Rattle.plant_file.specs.File.{plant_bodies, plant_file}
 use Rattle.plant_file.proofs.PlantKinds.{kind_lengths, bodies_count}
@@ -19,6 +19,8 @@ use Rattle.plant_file.proofs.FileIsPlant.{bodies_lengths, file_length}
 use Rattle.plan_file.specs.Plan.{Plan}
 use Rattle.model.specs.Rolled.{rolled_shape, rolled_plant}
 use Rattle.model.proofs.RolledTests.{backlog_after_lem, inventory_after_lem}
+use Rattle.rolling.specs.Left.{left_shape, left_plant}
+use Rattle.rolling.specs.declared.Rolled.{Rolled}
 
 -- section 10
 pub opening_body : (P : Plant) (x : Plan) (k : ℕ) (rate : ℕ → ℕ) → 1 ≤ k
@@ -60,23 +62,24 @@ pub copied_length : (f : Shape) (k place : ℕ) → place < 12 → place ≢ 0 �
 copied_length f k =
     at_copied (λ place. get_or (plant_lengths f) place 0 ≡ get_or (plant_lengths (rolled_shape f k)) place 0) refl refl refl refl refl refl refl
 
--- ---- twelve sections, and the file
-pub twelve_lengths : (f : Shape) (k : ℕ) → length (plant_lengths (rolled_shape f k)) ≡ 12
-unfolding plant_kind
-twelve_lengths f k = kind_lengths (rolled_shape f k)
-
-module _ (P : Plant) (x : Plan) (k : ℕ) (rate : ℕ → ℕ) where
-  pub rolled_lengths : map length (plant_bodies (rolled_plant P x k rate)) ≡ plant_lengths (rolled_shape (shape_of_plant P) k)
+-- ---- the bodies of the plant that is left: how many, and their lengths
+module _ (r : Rolled) where
+  pub left_count : length (plant_bodies (left_plant r)) ≡ (plant_kind 4).sections
   unfolding rolled_plant
-  rolled_lengths = bodies_lengths (rolled_plant P x k rate)
+  left_count = bodies_count (left_plant r)
 
-  pub rolled_length : length (plant_file (rolled_plant P x k rate)) ≡ start (plant_lengths (rolled_shape (shape_of_plant P) k)) 12
+  pub twelve : length (plant_bodies (left_plant r)) ≡ 12
+  unfolding plant_kind
+  twelve = left_count
+
+  pub left_lengths : map length (plant_bodies (left_plant r)) ≡ plant_lengths (left_shape r)
   unfolding rolled_plant
-  rolled_length =
-      file_length (rolled_plant P x k rate) ∙ ap (start (plant_lengths (rolled_shape (shape_of_plant P) k))) (twelve_lengths (shape_of_plant P) k)
+  left_lengths = bodies_lengths (left_plant r)
 
-  pub file_last : first_bodies 4 1 (plant_bodies (rolled_plant P x k rate)) 12 ≡ plant_file (rolled_plant P x k rate)
-  unfolding plant_file rolled_plant plant_kind
-  file_last =
-      ap (first_bodies 4 1 (plant_bodies (rolled_plant P x k rate))) (sym (bodies_count (rolled_plant P x k rate)))
-      ∙ all_stored 4 1 (plant_bodies (rolled_plant P x k rate))
+  pub body_size : (place : ℕ) → length (get_or (plant_bodies (left_plant r)) place []) ≡ get_or (plant_lengths (left_shape r)) place 0
+  body_size place = sym (body_length (plant_bodies (left_plant r)) place) ∙ ap (λ (l : List ℕ). get_or l place 0) left_lengths
+
+  pub file_size : length (file_of (plant_kind 4).number 1 (plant_bodies (left_plant r)))
+      ≡ start (plant_lengths (left_shape r)) (plant_kind 4).sections
+  unfolding plant_file rolled_plant
+  file_size = file_length (left_plant r) ∙ ap (start (plant_lengths (left_shape r))) (kind_lengths (left_shape r))

@@ -7,15 +7,14 @@ ghost use Rattle.plan_file.specs.Accepted.{plan_in};
 ghost use Rattle.model.specs.Rolled.{weeks_left};
 ghost use Rattle.calls.specs.Answer.{roll_passed, roll_answer, written_in, output_after};
 
+use calls::FileWriter;
+use contents::BodyLengths;
 use costs::mounted_number;
 use numbers::write;
 use passed_plan::mounted_product;
 use plan_file::{PairTable, PlanFile};
-use plant_file::{
-    PlantFile, RateList, plant_length, section_count, section_start, write_mounted, write_shape,
-};
-use rules::Candidate;
-use rules::week::is_shut;
+use plant_file::{PlantFile, RateList, plant_length, write_mounted, write_shape};
+use rules::{Candidate, is_shut};
 use sections::{Refusal, Shape, area};
 
 // Whether k is from 1 to one less than the weeks.
@@ -28,7 +27,7 @@ fn has_weeks_left(f: Shape, k: u64) -> bool
 // A plan that passes and its plant, how many of its weeks have run, and the rates of the weeks that are left.
 #[derive(Clone, Copy)]
 struct Rolled<'a> {
-    files: Candidate<'a>,
+    files: Candidate<'a, 'a>,
     rates: RateList<'a>,
     weeks: usize,
     ghost some: { 1 ≤ weeks },
@@ -37,14 +36,10 @@ struct Rolled<'a> {
 }
 
 impl Rolled<'_> {
-    ghost use Rattle.std.specs.Prelude.{[], ◌++◌, ◌+◌, ◌*◌, ◌/◌, ◌%◌, ◌-◌, length, get_or};
+    ghost use Rattle.std.specs.Prelude.{◌++◌, ◌+◌, ◌*◌, ◌/◌, ◌%◌, ◌-◌, length};
     ghost use Rattle.numbers.specs.Number.{encode, store};
-    ghost use Rattle.contents.specs.File.{start};
     ghost use Rattle.sections.specs.Section.{grid, cube};
-    ghost use Rattle.plant_file.specs.Form.{plant_lengths};
-    ghost use Rattle.plant_file.specs.File.{plant_bodies, plant_file};
     ghost use Rattle.model.specs.Rolled.{backlog_carried};
-    ghost use Rattle.calls.specs.Answer.{bytes};
     ghost use Rattle.rolling.specs.Left.{left_shape, left_plant};
 
     // Whether no backlog after the weeks that have run exceeds what a plant file may have at its opening.
@@ -149,27 +144,43 @@ impl Rolled<'_> {
         self.write_backlog(&mut out[at..]);
     }
 
-    // What is mounted after them.
+    // What is mounted after them, as section 12 has it.
     fn mounted(self) -> u64
         ensures { result ≡ (left_plant self.entry).line.mounted }
     {
-        let Candidate { plant, plan } = self.files;
-        let mounted = mounted_product(plant.bytes, plan.bytes, plant.shape, self.weeks);
+        let mounted = mounted_product(self.files, self.weeks);
         mounted_number(mounted)
     }
 
-    // 1 if the last of them is shut, else 0.
+    // 1 if the last of them is shut, else 0, as section 12 has it.
     fn shut_before(self) -> u64
         ensures { result ≡ (left_plant self.entry).line.shut_before }
     {
         u64::from(is_shut(self.files.plan, self.weeks - 1))
     }
+}
 
-    // Stores the body in a place at the start of what is lent.
-    fn write_body(self, out: &mut [u8], place: usize)
-        requires { (place < 12) × (get_or (plant_lengths (left_shape self)) place 0 ≤ length out.old) }
-        ensures { out.new ≡ store out.old 0 (get_or (plant_bodies (left_plant self.entry)) place []) }
-    {
+impl FileWriter for Rolled<'_> {
+    ghost use Rattle.plant_file.specs.Kinds.{file_kind};
+    ghost use Rattle.plant_file.specs.File.{plant_bodies};
+    ghost use Rattle.rolling.specs.Left.{left_plant};
+
+    ghost kind = { file_kind 4 };
+
+    ghost bodies = { λ x. plant_bodies (left_plant x) };
+
+    #[tactic(auto, using(crate::proofs::RolledBodies::left_lengths))]
+    fn body_lengths(self) -> BodyLengths {
+        plant_file::body_lengths(self.shape())
+    }
+
+    #[tactic(auto, using(crate::proofs::RolledBodies::file_size))]
+    fn file_length(self) -> usize {
+        plant_length(self.shape())
+    }
+
+    #[tactic(auto, using(crate::proofs::RolledBodies::twelve, crate::proofs::RolledBodies::body_size))]
+    fn write_body(self, out: &mut [u8], place: usize) {
         match place {
             plant_file::SHAPE => write_shape(out, self.shape()),
             plant_file::RATE => self.rates.write(out),
@@ -178,40 +189,6 @@ impl Rolled<'_> {
             plant_file::MOUNTED => write_mounted(out, self.mounted(), self.shut_before()),
             _ => self.files.plant.copy_body(out, place),
         }
-    }
-
-    // Stores the plant file: its contents, then each body in its own stretch of the output.
-    fn write_file(self, out: &mut [u8])
-        requires { start (plant_lengths (left_shape self)) 12 ≤ length out.old }
-        ensures { out.new ≡ store out.old 0 (plant_file (left_plant self.entry)) }
-    {
-        let g = self.shape();
-        plant_file::write_contents(out, g);
-        for place in 0..section_count(g) {
-            let at = section_start(g, place);
-            self.write_body(&mut out[at..], place);
-        }
-    }
-
-    // Writes the file, and says its length.
-    fn write_plant(self, out: &mut [u8]) -> Result<usize, Refusal>
-        requires { start (plant_lengths (left_shape self)) 12 ≤ length out.old }
-        ensures { (result ≡ Ok (start (plant_lengths (left_shape self.entry)) 12))
-            × (out.new ≡ store out.old 0 (plant_file (left_plant self.entry))) }
-    {
-        self.write_file(out);
-        Ok(plant_length(self.shape()))
-    }
-
-    // Writes the plant, where the output has room for it.
-    fn write_left(self, out: &mut [u8]) -> Result<usize, Refusal>
-        ensures result { result ≡ written_in (bytes (plant_file (left_plant self.entry))) out.old }
-        ensures output { out.new ≡ output_after (bytes (plant_file (left_plant self.entry))) out.old }
-    {
-        if out.len() < plant_length(self.shape()) {
-            return Err(Refusal::OutputLength);
-        }
-        self.write_plant(out)
     }
 }
 
@@ -234,7 +211,7 @@ fn roll_passed(out: &mut [u8], files: Candidate, k: u64, rates: &[u8]) -> Result
     if !rolled.is_backlog_carried() {
         return Err(Refusal::OpeningBacklog);
     }
-    rolled.write_left(out)
+    rolled.write_where_room(out)
 }
 
 // The plant file of the weeks after the first k, with the rates of a list, at the start of the output: its length, or the number of the first

@@ -2,44 +2,41 @@
 #![tactic(auto)]
 
 ghost use Rattle.std.specs.Prelude.{◌≡◌, ◌+◌, ◌*◌, ◌/◌, ◌%◌, ◌≤◌, ◌<◌, ◌^◌, eqb, pos, ◌-ℤ◌};
-ghost use Rattle.std.specs.Prelude.{Ok};
 ghost use Rattle.mathematics.specs.Below.{sum_below, all_below};
-ghost use Rattle.mathematics.specs.Week.{shut, rule31, rule32, rule34};
-ghost use Rattle.plant_file.specs.Plant.{plant_of};
-ghost use Rattle.plant_file.specs.Form.{plant_form};
+ghost use Rattle.mathematics.specs.Week.{rule31, rule32, rule34};
 ghost use Rattle.plant_file.specs.Accepted.{plant_in};
-ghost use Rattle.plan_file.specs.Plan.{plan_of};
-ghost use Rattle.plan_file.specs.Form.{plan_form};
 ghost use Rattle.plan_file.specs.Accepted.{plan_in};
 ghost use Rattle.plan_file.specs.Tables.{changeover_table_of};
-ghost use Rattle.rules.specs.Rules.{week_of, production_end, mounted_after, inventory_before, same_integer};
+ghost use Rattle.rules.specs.Rules.{week_of, mounted_after, inventory_before, same_integer};
 ghost use Rattle.rules.specs.Rules.{rule33, rule35, rule36, rule37, rule38, rule39, rule40, rule41};
 ghost use Rattle.rules.specs.Rules.{run_at, production_at, backlog_at, inventory_at, storage_at, changeovers_under, changeovers_in};
 ghost use Rattle.rules.specs.Rules.{revenue_in, changeover_charge_in, backlog_charge_in, inventory_charge_in};
 ghost use Rattle.rules.specs.Verdict.{verdict_of};
 
-pub mod week;
+mod week;
 
 use costs::{changeover, is_mounted, opening_mounted};
 use plan_file::{ArcSums, ChangeoverTable, PairTable, PlanFile, ProductTable};
 use plant_file::PlantFile;
-use sections::{Refusal, Shape, area};
+use sections::{Refusal, area};
 use std::ops::Range;
 use units::{
     Cents, Changeover, Grams, Minutes, Profit, Rate, Thousandths, UnitCost, charge, in_thousandths,
     produced,
 };
+pub use week::{is_shut, production_end};
 use week::{marks_in, positions_in, sequence_in};
 
 // A plan file to be judged, and the plant file of its plant.
 #[derive(Clone, Copy)]
-pub struct Candidate<'a> {
-    pub plant: PlantFile<'a>,
-    pub plan: PlanFile<'a>,
+pub struct Candidate<'plant, 'plan> {
+    pub plant: PlantFile<'plant>,
+    pub plan: PlanFile<'plan>,
     pub ghost same: { plan.shape ≡ plant.shape },
 }
 
-// What is there after a week with what has left is what was there before with what has come.
+// What is there after a week with what has left is what was there before with what has come. It stays a function: rules 38 and 39 call it, and
+// it says the bound under which neither sum overflows.
 fn balanced(after: Grams, left: Grams, before: Grams, come: Grams) -> bool
     requires { (after.0 < 2 ^ 40) × (left.0 < 2 ^ 40) × (before.0 < 2 ^ 40) × (come.0 < 2 ^ 40) }
     ensures { result ≡ eqb (after.0 + left.0) (before.0 + come.0) }
@@ -55,7 +52,7 @@ fn marked(mark: u64, n: u64) -> u64
     mark * n
 }
 
-// What a changeover takes where it is marked.
+// What a changeover takes where it is marked. It stays a function: no more than without the mark, which bounds the sum over all arcs.
 fn charged(mark: u64, one: Changeover) -> Changeover
     requires { mark < 2 }
     ensures { (result.minutes.0 ≡ mark * one.minutes.0) × (result.cents.0 ≡ mark * one.cents.0)
@@ -77,7 +74,7 @@ struct Market {
     backlog: Thousandths,
 }
 
-// Whether the profit is what is gained less what is lost.
+// Whether the profit is what is gained less what is lost. It stays a function, since it says the bound under which the difference is one of i64.
 fn is_profit(profit: Profit, gained: Thousandths, lost: Thousandths) -> bool
     requires { (gained.0 < 2 ^ 63) × (lost.0 < 2 ^ 63) }
     ensures { result ≡ same_integer profit.0 (pos gained.0 -ℤ pos lost.0) }
@@ -85,7 +82,7 @@ fn is_profit(profit: Profit, gained: Thousandths, lost: Thousandths) -> bool
     profit.0 == (gained.0 as i64) - (lost.0 as i64)
 }
 
-impl Candidate<'_> {
+impl Candidate<'_, '_> {
     // The plant's products.
     fn products(self) -> Range<usize>
         ensures { result ≡ record { start = 0; end = self.entry.plant.shape.products } }
@@ -102,7 +99,7 @@ impl Candidate<'_> {
 
     // ---- rule 33
 
-    // Whether a product is mounted after so many weeks, of which the last produces: 1, else 0.
+    // Whether a product is mounted after so many weeks, of which the last produces: 1, else 0, which the rule multiplies by.
     pub fn mounted_after(self, weeks: usize, product: usize) -> u64
         requires { (weeks ≤ self.plant.shape.weeks) × (product < self.plant.shape.products) }
         ensures { (result ≡ mounted_after (plant_in self.entry.plant).line (plan_in self.entry.plan).line weeks product) × (result < 2) }
@@ -132,7 +129,7 @@ impl Candidate<'_> {
         ensures { result ≡ rule33 self.entry.plant.shape.products (plant_in self.entry.plant).line (plan_in self.entry.plan).line week }
     {
         let ArcSums { into, out } = self.plan.arc_sums(ChangeoverTable::Between, week);
-        let weeks = week::production_end(self.plan, week);
+        let weeks = production_end(self.plan, week);
         let mounted = self.mounted_sum(weeks);
         let firsts = self.plan.week_sum(ProductTable::First, week);
         self.products().all(|product| {
@@ -236,7 +233,8 @@ impl Candidate<'_> {
 
     // ---- rule 36
 
-    // What a week's changeovers of a table take: at most 256 of them, so that their minutes and cents stay below 2^32.
+    // What a week's changeovers of a table take: at most 256 of them, so that their minutes and cents stay below 2^32. They are summed as u32,
+    // of which a register holds twice as many.
     fn changeovers_under(self, table: ChangeoverTable, week: usize) -> Changeover
         requires { week < self.plant.shape.weeks }
         ensures { let p = plant_in self.entry.plant in let marks = changeover_table_of table (plan_in self.entry.plan).line week in
@@ -244,17 +242,17 @@ impl Candidate<'_> {
             × (result.cents.0 ≡ changeovers_under p.products p.line.changeover_cents marks)
             × (result.minutes.0 < 2 ^ 32) × (result.cents.0 < 2 ^ 32) }
     {
-        let mut minutes = 0;
-        let mut cents = 0;
+        let mut minutes: u32 = 0;
+        let mut cents: u32 = 0;
         for arc in 0..area(self.plant.shape.products, self.plant.shape.products) {
             let mark = self.plan.arc_changeover(table, week, arc);
             let taken = charged(mark, changeover(self.plant, arc));
-            minutes += taken.minutes.0;
-            cents += taken.cents.0;
+            minutes += taken.minutes.0 as u32;
+            cents += taken.cents.0 as u32;
         }
         Changeover {
-            minutes: Minutes(minutes),
-            cents: Cents(cents),
+            minutes: Minutes(u64::from(minutes)),
+            cents: Cents(u64::from(cents)),
         }
     }
 
@@ -298,7 +296,7 @@ impl Candidate<'_> {
 
     // ---- rule 38
 
-    // 38 of a pair (customer times the count of products, plus product) in all weeks.
+    // 38 of a pair (customer times the count of products, plus product) in all weeks. All are tried, as in rule 34.
     #[tactic(auto, unfolding(crate::specs::Rules::backlog_before))]
     fn backlog_over(self, pair: usize) -> bool
         requires { pair < self.plant.shape.customers * self.plant.shape.products }
@@ -306,16 +304,15 @@ impl Candidate<'_> {
             result ≡ all_below p.weeks (backlog_at p (plan_in self.entry.plan) (pair / p.products) (pair % p.products)) }
     {
         let mut before = self.plant.pair_opening_backlog(pair);
+        let mut kept = true;
         for week in 0..usize::from(self.plant.shape.weeks) {
             let after = self.plan.pair_number(PairTable::Backlog, pair, week);
             let sales = self.plan.pair_number(PairTable::Sales, pair, week);
             let demand = self.plant.pair_demand(pair, week);
-            if !balanced(Grams(after), Grams(sales), Grams(before), Grams(demand)) {
-                return false;
-            }
+            kept &= balanced(Grams(after), Grams(sales), Grams(before), Grams(demand));
             before = after;
         }
-        true
+        kept
     }
 
     // 38 in all weeks: the files hold the weeks of a pair side by side.
@@ -539,68 +536,4 @@ impl Candidate<'_> {
         }
         Ok(Profit(self.plan.profit()))
     }
-}
-
-// ---- the same of bytes and a shape
-
-pub fn judge<'a>(plant: &'a [u8], plan: &'a [u8], f: Shape) -> Result<Profit, Refusal>
-    requires { (plant_form plant.now ≡ Ok f) × (plan_form f plan.now ≡ Ok f) }
-    ensures { result ≡ verdict_of (plant_of f plant.now) (plan_of f plan.now) }
-{
-    let plant = PlantFile {
-        bytes: plant,
-        shape: f,
-    };
-    let plan = PlanFile {
-        bytes: plan,
-        shape: f,
-    };
-    Candidate { plant, plan }.judge()
-}
-
-pub fn is_shut(plan: &[u8], f: Shape, week: usize) -> bool
-    requires { (plan_form f plan.now ≡ Ok f) × (week < f.weeks) }
-    ensures { result ≡ shut f.products (week_of (plan_of f plan.now).line week) }
-{
-    week::is_shut(
-        PlanFile {
-            bytes: plan,
-            shape: f,
-        },
-        week,
-    )
-}
-
-pub fn production_end(plan: &[u8], f: Shape, week: usize) -> usize
-    requires { (plan_form f plan.now ≡ Ok f) × (week ≤ f.weeks) }
-    ensures { (result ≡ production_end f.products (plan_of f plan.now).line week) × (result ≤ week) }
-{
-    week::production_end(
-        PlanFile {
-            bytes: plan,
-            shape: f,
-        },
-        week,
-    )
-}
-
-pub fn mounted_after<'a>(
-    plant: &'a [u8],
-    plan: &'a [u8],
-    f: Shape,
-    weeks: usize,
-    product: usize,
-) -> u64
-    requires { (plant_form plant.now ≡ Ok f) × (plan_form f plan.now ≡ Ok f) × (weeks ≤ f.weeks) × (product < f.products) }
-    ensures { (result ≡ mounted_after (plant_of f plant.now).line (plan_of f plan.now).line weeks product) × (result < 2) }
-{
-    let plant = PlantFile {
-        bytes: plant,
-        shape: f,
-    };
-    let plan = PlanFile {
-        bytes: plan,
-        shape: f,
-    };
-    Candidate { plant, plan }.mounted_after(weeks, product)
 }

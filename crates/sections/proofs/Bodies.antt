@@ -2,13 +2,14 @@
 use Prim.Native.Nat.{ℕ, ◌+◌, ◌*◌, ◌-◌, ◌≤◌, ◌<◌}
 use mathlib.Core.Path.{◌≡◌, ap, ◌∙◌, sym}
 use mathlib.Core.List.{List}
+use native.Mathlib.Omega.{arith}
 use native.Mathlib.Nat.{mul_comm, mul_left_comm, mul_assoc}
 use lib.ListN.{length}
 use borrow.Rule.Slice.PartMut.{mid_of, put_mid}
 use Rattle.mathematics.specs.Below.{join_below}
 use Rattle.mathematics.proofs.Join.{even_length, join_ext}
 use Rattle.numbers.specs.Number.{Bytes, encode, store}
-use Rattle.numbers.proofs.Number.{encode_length, encode_ext}
+use Rattle.numbers.proofs.Number.{encode_length, encode_ext, room}
 use Rattle.numbers.proofs.Store.{part_store, store_join}
 use Rattle.numbers.proofs.ByteLists.{bytes_join, bytes_encode}
 use Rattle.sections.specs.Section.{grid, cube}
@@ -45,7 +46,11 @@ cube_bytes k l m n f = bytes_join l (λ h. grid k m n (f h)) (λ h. grid_bytes k
 pub rows_length : (k n r : ℕ) (g : ℕ → ℕ → ℕ) → length (join_below r (λ q. encode k n (g q))) ≡ r * (k * n)
 rows_length k n r g = even_length r (k * n) (λ q. encode k n (g q)) (λ q. encode_length k n (g q))
 
--- the next row, stored in the stretch that is lent
+-- the next row has room
+pub row_room : (k n : ℕ) {m r size total : ℕ} → size ≡ k * n → r < m → k * (m * n) ≤ total → size * r + k * n ≤ total
+row_room k n {m} {r} e l h = omega (arith, room (k * n) l, mul_assoc k n m, mul_comm n m, ap (λ (x : ℕ). x * r) e, h)
+
+-- and is stored in the stretch that is lent
 pub row_stored : (k n : ℕ) (g : ℕ → ℕ → ℕ) (s out new : List ℕ) (r p : ℕ) → out ≡ store s 0 (join_below r (λ q. encode k n (g q)))
     → p ≡ k * n * r → p ≤ length out → new ≡ store (mid_of p (length out - p) out) 0 (encode k n (g r))
     → put_mid p (length out - p) out new ≡ store s 0 (join_below (r + 1) (λ q. encode k n (g q)))
@@ -54,3 +59,10 @@ row_stored k n g s out new r p e d l h =
     ap (put_mid p (length out - p) out) h
     ∙ (part_store out p (bytes r) l
     ∙ (ap (λ (x : List ℕ). store x p (bytes r)) e ∙ store_join r bytes s p (rows_length k n r g ∙ (mul_comm r (k * n) ∙ sym d))))
+
+-- the same of rows whose size is known
+pub sized_row_stored : (k n : ℕ) (g : ℕ → ℕ → ℕ) (s out new : List ℕ) (r size : ℕ) → size ≡ k * n
+    → out ≡ store s 0 (join_below r (λ q. encode k n (g q))) → size * r ≤ length out
+    → new ≡ store (mid_of (size * r) (length out - size * r) out) 0 (encode k n (g r))
+    → put_mid (size * r) (length out - size * r) out new ≡ store s 0 (join_below (r + 1) (λ q. encode k n (g q)))
+sized_row_stored k n g s out new r size d e l h = row_stored k n g s out new r (size * r) e (ap (λ (x : ℕ). x * r) d) l h

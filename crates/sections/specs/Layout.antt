@@ -1,6 +1,8 @@
 -- The kinds of plan and slot files, and the layout of a section, as paper 01 has them under "Files". The kinds of plant files stand in
 -- `plant_file/specs/Kinds`. Assumes nothing.
-use Rattle.std.specs.Prelude.{ℕ, ◌+◌, ◌*◌, List, map}
+use Rattle.std.specs.Prelude.{ℕ, ◌+◌, ◌*◌, ◌≡◌, List, map, length}
+use Rattle.contents.specs.Lengths.{lengths_in}
+use Rattle.contents.specs.declared.body_lengths.BodyLengths.{BodyLengths}
 use Rattle.sections.specs.declared.Layout.{Layout}
 
 -- a kind of file: its number, the number of its first section, and how many sections it has
@@ -20,6 +22,13 @@ slot_kind = record { number = 3; first = 41; sections = 3 }
 -- the bytes of a kind's contents
 abbrev pub contents_length : Kind → ℕ
 contents_length k = 2 + 9 * k.sections
+
+-- the lengths of the bodies of a file of this kind
+pub record LengthsOf (k : Kind) (lengths : List ℕ) (x : BodyLengths) : Type 0 where
+  pub kind : x.kind ≡ k.number
+  pub first : x.first ≡ k.first
+  pub sections : x.sections ≡ length lengths
+  pub bodies : lengths_in x ≡ lengths
 
 -- a section's numbers, rows of columns, have so many bytes each
 abbrev pub layout : (width rows columns : ℕ) → Layout

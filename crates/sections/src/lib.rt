@@ -13,7 +13,8 @@ use contents::entry_in;
 use numbers::read;
 use std::fmt;
 
-// The kind of a plant file, and its N, C and W: the counts of products, customers and weeks.
+// The kind of a plant file, and its N, C and W: the counts of products, customers and weeks. The kind is a byte, since a shape may have any byte:
+// an enum of the kinds would ask more of callers.
 #[derive(Clone, Copy, Debug, PartialEq, Eq)]
 pub struct Shape {
     pub kind: u8,
@@ -124,7 +125,7 @@ pub fn pair_row(s: &[u8], f: Shape, section: usize, pair: usize) -> PairRow
     ensures { PairRowOf f s.now result × (result.section ≡ section) × (result.pair ≡ pair) }
 {
     let e = entry_in(s, section);
-    let at = e.offset as usize + 4 * (pair * usize::from(f.weeks));
+    let at = e.offset + 4 * (pair * usize::from(f.weeks));
     PairRow { section, pair, at }
 }
 
@@ -151,14 +152,19 @@ pub fn customer_sum(s: &[u8], f: Shape, section: usize, product: usize, week: us
     sum
 }
 
-// Whether the numbers `from` to `from + m - 1` of section i, of k bytes each, are from lo to hi.
+// Whether the numbers `from` to `from + m - 1` of section i, of k bytes each, are from lo to hi. Every number is tried: a loop that ends early
+// is not compiled to tests of several numbers at a time.
 pub fn in_range(s: &[u8], i: usize, k: usize, from: usize, m: usize, lo: u64, hi: u64) -> bool
     requires { Holds s.now i k (from + m) }
     ensures { result ≡ in_range k s.now i from m lo hi }
 {
     let e = entry_in(s, i);
-    let start = e.offset as usize + k * from;
-    (0..m).all(|j| (lo..=hi).contains(&read(s, start + k * j, k)))
+    let start = e.offset + k * from;
+    let mut within = true;
+    for j in 0..m {
+        within &= (lo..=hi).contains(&read(s, start + k * j, k));
+    }
+    within
 }
 
 // Stores the bytes of section i, m numbers of k bytes each, at the start of what is lent.
@@ -167,9 +173,8 @@ pub fn copy_section(out: &mut [u8], s: &[u8], i: usize, k: usize, m: usize)
     ensures { out.new ≡ store out.old 0 (encode k m (cell k s.now i)) }
 {
     let e = entry_in(s, i);
-    let at = e.offset as usize;
     let size = k * m;
-    out[..size].copy_from_slice(&s[at..at + size]);
+    out[..size].copy_from_slice(&s[e.offset..e.offset + size]);
 }
 
 // Whether the diagonal of section i, a table of n by n numbers of k bytes, is 0.
@@ -178,6 +183,5 @@ pub fn diagonal_zero(s: &[u8], i: usize, k: usize, n: usize) -> bool
     ensures { result ≡ diagonal_zero k s.now i n }
 {
     let e = entry_in(s, i);
-    let at = e.offset as usize;
-    (0..n).all(|j| read(s, at + k * (j * n + j), k) == 0)
+    (0..n).all(|j| read(s, e.offset + k * (j * n + j), k) == 0)
 }

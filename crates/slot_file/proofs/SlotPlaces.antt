@@ -2,7 +2,7 @@
 use Prim.Native.Nat.{ℕ, ◌+◌, ◌*◌, ◌≤◌, ◌<◌}
 use mathlib.Core.Path.{◌≡◌}
 use mathlib.Core.Bool.{false}
-use mathlib.Core.List.{List}
+use mathlib.Core.List.{List, [], ◌∷◌}
 use native.Mathlib.Omega.{arith}
 use lib.ListN.{length}
 use borrow.Author.Tests.{ne_eqb}
@@ -18,6 +18,16 @@ pub slot_listable : (f : Shape) (total : ℕ) → total ≤ 65025 → f.weeks < 
     → Listable 41 (slot_lengths f total)
 unfolding start
 slot_listable f total l w v = record { numbers = omega arith; offsets = omega arith }
+
+-- the lengths, however their numbers came about
+module _ (f : Shape) (total : ℕ) {weeks slots sales : ℕ} (a : weeks ≡ f.weeks) (b : slots ≡ 3 * total)
+    (c : sales ≡ 4 * (f.customers * f.products * f.weeks)) where
+  pub lengths_known : weeks ∷ slots ∷ sales ∷ [] ≡ slot_lengths f total
+  lengths_known =
+      let w : weeks ≡ 1 * (1 * f.weeks) = omega (arith, a) in let s : slots ≡ 3 * (1 * total) = omega (arith, b) in (λ u. w u ∷ s u ∷ c u ∷ [])
+
+  pub lengths_listable : total ≤ 65025 → f.weeks < 256 → f.customers * f.products * f.weeks ≤ 16581375 → Listable 41 (weeks ∷ slots ∷ sales ∷ [])
+  lengths_listable l w v = rw lengths_known (slot_listable f total l w v)
 
 -- section 41 has room for its counts, 42 for its slots, 43 for its sales
 module _ (f : Shape) (total : ℕ) (s : List ℕ) (z : Laid s (slot_lengths f total)) where

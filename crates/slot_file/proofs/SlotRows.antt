@@ -10,12 +10,11 @@ use Rattle.mathematics.specs.Below.{list_below}
 use Rattle.sections.specs.declared.Shape.{Shape}
 use Rattle.slot_file.specs.Slots.{Slot as FileSlot, no_slot, slot_count, slot_at, slots_before, slots_of}
 use Rattle.slot_file.specs.declared.Slot.{Slot}
-use Rattle.slot_file.specs.declared.SlotRow.{SlotRow}
 use Rattle.slot_file.specs.declared.WeekRow.{WeekRow}
-use Rattle.slot_file.specs.Row.{slot_of, slots_in, RowOf}
+use Rattle.slot_file.specs.Row.{slot_of, slots_in}
 use Rattle.slot_file.proofs.SlotPlaces.{slots_held}
 use Rattle.slot_file.proofs.AcceptedFile.{good, inside}
-use Rattle.slot_file.proofs.SlotReads.{week_length, week_slot, slot_below, week_below}
+use Rattle.slot_file.proofs.SlotReads.{week_slot, slot_below, week_below}
 
 list_next : (n : ℕ) (g : ℕ → FileSlot) → list_below (suc n) g ≡ list_below n g ++ (g n ∷ [])
 list_next zero g = refl
@@ -34,9 +33,6 @@ slot_eta x e f = rw (e, f)
 pub before_next : (s : List ℕ) (w : ℕ) → slots_before s (suc w) ≡ slots_before s w + slot_count s w
 unfolding slots_before
 before_next s w = refl
-
-pub row_length : {f : Shape} {s : List ℕ} {row : SlotRow} → RowOf f s row → row.week < f.weeks → length ((slots_of f s).line.week row.week) ≡ row.count
-row_length {f} {s} {row} h l = week_length f s row.week ∙ sym (h.count l)
 
 module _ (row : WeekRow) (l : row.week < row.file.shape.weeks) where
   abbrev f : Shape

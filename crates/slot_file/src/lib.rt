@@ -5,20 +5,21 @@ ghost use Rattle.std.specs.Prelude.{◌≡◌, true, ◌++◌, ◌+◌, ◌*◌,
 ghost use Rattle.mathematics.specs.Below.{sum_below, all_below, list_below};
 ghost use Rattle.numbers.specs.Number.{Bytes, digits, store};
 ghost use Rattle.contents.specs.Contents.{offset, placed, sized};
-ghost use Rattle.contents.specs.File.{start, contents_bytes, Listable};
+ghost use Rattle.contents.specs.File.{start};
 ghost use Rattle.sections.specs.Section.{Holds, Laid, cube};
-ghost use Rattle.sections.specs.Layout.{slot_kind, contents_length};
-ghost use Rattle.slot_file.specs.Slots.{no_slot, slot_count, slot_at, slots_before, slots_of};
-ghost use Rattle.slot_file.specs.Row.{slots_in, RowOf, SalesRow};
+ghost use Rattle.sections.specs.Layout.{slot_kind, contents_length, LengthsOf};
+ghost use Rattle.slot_file.specs.Slots.{no_slot, slot_count, slot_at, slots_before};
+ghost use Rattle.slot_file.specs.Row.{slots_in};
 ghost use Rattle.slot_file.specs.Form.{slot_lengths, slots_in_range, slot_form};
 
-use contents::{cell_in, entry_in, is_headed, is_placed, is_sized};
+use contents::{BodyLengths, cell_in, entry_in, is_headed, is_placed};
 use numbers::{read, write};
 use sections::{
     PairRow, Refusal, Shape, copy_section, customer_sum, in_range, pair_number, pair_row, volume,
 };
 use units::Minutes;
 
+// The file's kind: a number, as `contents` reads and writes it.
 const KIND: u64 = 3;
 
 const FIRST: u64 = 41;
@@ -91,22 +92,27 @@ pub struct PairSales<'a> {
     pub ghost begins: { at ≡ offset file.bytes.now 2 + 4 * (pair * file.shape.weeks) },
 }
 
-// Where the slots of a week stand, without their file.
-#[derive(Clone, Copy)]
-pub struct SlotRow {
-    pub week: usize,
-    pub first: usize,
-    pub count: usize,
+// The lengths of the bodies of a slot file with `total` slots.
+pub fn body_lengths(f: Shape, total: usize) -> BodyLengths
+    requires { total ≤ 65025 }
+    ensures { LengthsOf slot_kind (slot_lengths f total) result }
+{
+    let sales = volume(f.customers, f.products, f.weeks);
+    let weeks = usize::from(f.weeks);
+    BodyLengths {
+        kind: KIND,
+        first: FIRST,
+        sections: SECTIONS,
+        lengths: [weeks, 3 * total, 4 * sales, 0, 0, 0, 0, 0, 0, 0, 0, 0],
+    }
 }
 
-// The length of each body, where the slots are `total` in all.
-fn lengths_of(f: Shape, total: usize) -> [u64; 3]
+// The length of a slot file with `total` slots.
+pub fn slot_length(f: Shape, total: usize) -> usize
     requires { total ≤ 65025 }
-    ensures { (result ≡ slot_lengths f total) × Listable slot_kind.first (slot_lengths f total) }
+    ensures { (result ≡ start (slot_lengths f total) slot_kind.sections) × (result < 2 ^ 32) }
 {
-    let slots = total as u64;
-    let sales = volume(f.customers, f.products, f.weeks) as u64;
-    [u64::from(f.weeks), 3 * slots, 4 * sales]
+    body_lengths(f, total).file_length()
 }
 
 // The slots before week w.
@@ -116,10 +122,9 @@ fn slots_before(s: &[u8], w: usize) -> usize
     ensures { (result ≡ slots_before s.now w) × (result ≤ 65025) }
 {
     let e = entry_in(s, COUNTS);
-    let at = e.offset as usize;
     let mut sum = 0;
     for i in 0..w {
-        sum += usize::from(s[at + i]);
+        sum += usize::from(s[e.offset + i]);
     }
     sum
 }
@@ -131,11 +136,10 @@ fn has_lengths(s: &[u8], f: Shape) -> bool
     ensures { result ≡ sized s.now (slot_lengths f (slots_before s.now f.weeks)) }
 {
     let e = entry_in(s, COUNTS);
-    if e.length != u64::from(f.weeks) {
+    if e.length != usize::from(f.weeks) {
         return false;
     }
-    let lengths = lengths_of(f, slots_before(s, usize::from(f.weeks)));
-    is_sized(s, &lengths)
+    body_lengths(f, slots_before(s, usize::from(f.weeks))).is_sized(s)
 }
 
 // Where slot j begins.
@@ -144,7 +148,7 @@ fn slot_place(s: &[u8], j: usize) -> usize
     ensures { (result ≡ offset s.now 1 + 3 * j) × (result + 3 ≤ length s.now) }
 {
     let e = entry_in(s, SLOTS);
-    e.offset as usize + SLOT_BYTES * j
+    e.offset + SLOT_BYTES * j
 }
 
 // Whether each slot's product is below n.
@@ -397,33 +401,6 @@ impl PairSales<'_> {
     }
 }
 
-// Where the body in a place begins, of a slot file with `total` slots; after the last place, where the file ends.
-#[tactic(auto, using(contents::proofs::Entries::start_zero, contents::proofs::Entries::start_next, contents::proofs::Entries::start_below))]
-pub fn section_start(f: Shape, total: usize, place: usize) -> usize
-    requires { (total ≤ 65025) × (place ≤ slot_kind.sections) }
-    ensures { (result ≡ start (slot_lengths f total) place) × (result < 2 ^ 32) }
-{
-    let lengths = lengths_of(f, total);
-    contents::section_start(&lengths, place)
-}
-
-// The length of a slot file with `total` slots.
-pub fn slot_length(f: Shape, total: usize) -> usize
-    requires { total ≤ 65025 }
-    ensures { (result ≡ start (slot_lengths f total) slot_kind.sections) × (result < 2 ^ 32) }
-{
-    section_start(f, total, SECTIONS)
-}
-
-// Stores the contents of a slot file with `total` slots.
-pub fn write_contents(out: &mut [u8], f: Shape, total: usize)
-    requires { (contents_length slot_kind ≤ length out.old) × (total ≤ 65025) }
-    ensures { out.new ≡ store out.old 0 (contents_bytes slot_kind.number slot_kind.first (slot_lengths f total)) }
-{
-    let lengths = lengths_of(f, total);
-    contents::write_contents(out, KIND, FIRST, &lengths);
-}
-
 // Stores a slot at the start of what is lent.
 pub fn write_slot(out: &mut [u8], product: u64, minutes: u64)
     requires { 3 ≤ length out.old }
@@ -431,128 +408,4 @@ pub fn write_slot(out: &mut [u8], product: u64, minutes: u64)
 {
     write(out, 0, 1, product);
     write(out, 1, 2, minutes);
-}
-
-// ---- the same of bytes and a shape
-
-// The slots of the first week.
-pub fn first_row(s: &[u8], f: Shape) -> SlotRow
-    requires { slot_form f s.now ≡ Ok f }
-    ensures { RowOf f s.now result × (result.week ≡ 0) }
-{
-    let row = SlotFile { bytes: s, shape: f }.first_row();
-    SlotRow {
-        week: row.week,
-        first: row.first,
-        count: row.count,
-    }
-}
-
-// The slots of the week after a week.
-pub fn next_row(s: &[u8], f: Shape, row: SlotRow) -> SlotRow
-    requires { RowOf f s.now row × (row.week < f.weeks) }
-    ensures { RowOf f s.now result × (result.week ≡ row.week + 1) }
-{
-    let SlotRow { week, first, count } = row;
-    let next = WeekRow {
-        file: SlotFile { bytes: s, shape: f },
-        week,
-        first,
-        count,
-    }
-    .next();
-    SlotRow {
-        week: next.week,
-        first: next.first,
-        count: next.count,
-    }
-}
-
-// The product of slot k of a week.
-pub fn row_product(s: &[u8], f: Shape, row: SlotRow, k: usize) -> usize
-    requires { RowOf f s.now row × (row.week < f.weeks) × (k < row.count) }
-    ensures { (result ≡ (get_or ((slots_of f s.now).line.week row.week) k no_slot).product) × (result < f.products) }
-{
-    let SlotRow { week, first, count } = row;
-    WeekRow {
-        file: SlotFile { bytes: s, shape: f },
-        week,
-        first,
-        count,
-    }
-    .product(k)
-}
-
-// The minutes of slot k of a week.
-pub fn row_minutes(s: &[u8], f: Shape, row: SlotRow, k: usize) -> u64
-    requires { RowOf f s.now row × (row.week < f.weeks) × (k < row.count) }
-    ensures { (result ≡ (get_or ((slots_of f s.now).line.week row.week) k no_slot).minutes) × (result < 2 ^ 16) }
-{
-    let SlotRow { week, first, count } = row;
-    WeekRow {
-        file: SlotFile { bytes: s, shape: f },
-        week,
-        first,
-        count,
-    }
-    .minutes(k)
-}
-
-// Sections 41 and 42: the slots of a week, of at most 16 products.
-pub fn week_slots(s: &[u8], f: Shape, week: usize) -> WeekSlots
-    requires { (slot_form f s.now ≡ Ok f) × (week < f.weeks) × (f.products ≤ 16) }
-    ensures { (slots_in (take result.count result.slots) ≡ (slots_of f s.now).line.week week) × (result.count ≤ 16) }
-{
-    SlotFile { bytes: s, shape: f }.week_slots(week)
-}
-
-// Where a pair's sales stand, week by week.
-pub fn sales_row(s: &[u8], f: Shape, pair: usize) -> PairRow
-    requires { (slot_form f s.now ≡ Ok f) × (pair < f.customers * f.products) }
-    ensures { SalesRow f s.now result × (result.pair ≡ pair) }
-{
-    let row = SlotFile { bytes: s, shape: f }.sales_row(pair);
-    PairRow {
-        section: SALES,
-        pair: row.pair,
-        at: row.at,
-    }
-}
-
-// Section 43: a week's sales of its product to its customer.
-pub fn week_sales(s: &[u8], f: Shape, row: PairRow, week: usize) -> u64
-    requires { SalesRow f s.now row × (week < f.weeks) }
-    ensures { (result ≡ (slots_of f s.now).sales (row.pair / f.products) (row.pair % f.products) week) × (result < 2 ^ 32) }
-{
-    PairSales {
-        file: SlotFile { bytes: s, shape: f },
-        pair: row.pair,
-        at: row.at,
-    }
-    .sales(week)
-}
-
-// The same of a pair: customer times the count of products, plus product.
-pub fn pair_sales(s: &[u8], f: Shape, pair: usize, week: usize) -> u64
-    requires { (slot_form f s.now ≡ Ok f) × (pair < f.customers * f.products) × (week < f.weeks) }
-    ensures { (result ≡ (slots_of f s.now).sales (pair / f.products) (pair % f.products) week) × (result < 2 ^ 32) }
-{
-    SlotFile { bytes: s, shape: f }.pair_sales(pair, week)
-}
-
-// The grams of a product sold in a week, over all customers.
-pub fn sold(s: &[u8], f: Shape, week: usize, product: usize) -> u64
-    requires { (slot_form f s.now ≡ Ok f) × (week < f.weeks) × (product < f.products) }
-    ensures { (result ≡ sum_below f.customers (λ c. (slots_of f s.now).sales c product week)) × (result < 2 ^ 40) }
-{
-    SlotFile { bytes: s, shape: f }.sold(week, product)
-}
-
-// Stores section 43's bytes at the start of what is lent.
-pub fn write_sales(out: &mut [u8], s: &[u8], f: Shape)
-    requires { (slot_form f s.now ≡ Ok f) × (4 * (f.customers * f.products * f.weeks) ≤ length out.old) }
-    ensures { out.new
-        ≡ store out.old 0 (cube 4 f.customers f.products f.weeks (slots_of f s.now).sales) }
-{
-    SlotFile { bytes: s, shape: f }.write_sales(out);
 }

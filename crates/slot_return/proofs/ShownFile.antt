@@ -4,7 +4,7 @@ use mathlib.Core.Path.{◌≡◌, refl, sym, ap, ◌∙◌}
 use mathlib.Core.List.{List, [], ◌∷◌, ◌++◌, map}
 use native.Mathlib.Omega.{arith}
 use native.Mathlib.Nat.{mul_comm}
-use lib.ListN.{length}
+use lib.ListN.{length, get_or}
 use borrow.Rule.Slice.PartMut.{mid_of, put_mid}
 use Rattle.mathematics.specs.Below.{sum_below, join_below, list_below}
 use Rattle.mathematics.specs.Order.{order_of}
@@ -14,21 +14,22 @@ use Rattle.mathematics.proofs.OrderTheorem.{order_length}
 use Rattle.numbers.specs.Number.{digits, encode, store}
 use Rattle.numbers.proofs.Number.{encode_ext}
 use Rattle.numbers.proofs.Store.{store_join, part_store}
-use Rattle.contents.specs.File.{start, contents_bytes}
-use Rattle.contents.proofs.FileStored.{first_bodies, all_stored, contents_first, stretch_stored}
-use Rattle.contents.proofs.FileWritten.{file_length as laid-length}
+use Rattle.contents.specs.File.{start, file_of}
+use Rattle.contents.proofs.FileLayout.{body_length}
+use Rattle.contents.proofs.FileWritten.{file_length}
 use Rattle.sections.specs.Section.{cube}
+use Rattle.sections.specs.Layout.{slot_kind}
 use Rattle.sections.specs.declared.Shape.{Shape}
 use Rattle.plan_file.specs.Accepted.{plan_in}
 use Rattle.slot_file.specs.Form.{slot_lengths}
-use Rattle.slot_file.specs.File.{slot_bytes, slot_bodies, slot_file}
+use Rattle.slot_file.specs.File.{slot_bytes, slot_bodies}
 use Rattle.slot_file.proofs.SlotBytes.{bytes_length}
 use Rattle.slot_file.proofs.FileIsSlots.{body_lengths}
 use Rattle.rules.specs.Rules.{week_of}
 use Rattle.model.specs.Match.{slots_for, line_shown, slots_shown}
 use Rattle.passed_plan.specs.Shown.{week_count, week_product}
 use Rattle.slot_return.specs.declared.ShownSlots.{ShownSlots}
-use Rattle.slot_return.specs.Bodies.{slots_in, count_in, week_in, body_in, file_in}
+use Rattle.slot_return.specs.Bodies.{slots_in, count_in, week_in, body_in}
 
 -- ---- the slots of an order
 order_slots : (minutes : ℕ → ℕ) (ps : List ℕ) → length (slots_for minutes ps) ≡ length ps
@@ -101,37 +102,18 @@ module _ (x : ShownSlots) where
   unfolding slot_bodies slots_shown
   sales_body = refl
 
-  listed : map length (slot_bodies f (slots_in x)) ≡ slot_lengths f x.total
+  pub listed : map length (slot_bodies f (slots_in x)) ≡ slot_lengths f x.total
   listed =
       body_lengths f (slots_in x) ∙ ap (slot_lengths f) (sum_ext f.weeks _ (count_in x) (λ w l. week_length w) ∙ sym x.counted)
 
-  pub file_length : length (file_in x) ≡ start (slot_lengths f x.total) 3
-  unfolding slot_file slot_bodies
-  file_length = laid-length 3 41 (slot_bodies f (slots_in x)) ∙ ap (λ (l : List ℕ). start l 3) listed
+  pub bodies_count : length (slot_bodies f (slots_in x)) ≡ slot_kind.sections
+  unfolding slot_bodies
+  bodies_count = refl
 
-  -- where the bodies begin
-  pub starts : (start (slot_lengths f x.total) 0 ≡ 29)
-      × (start (slot_lengths f x.total) 1 ≡ start (slot_lengths f x.total) 0 + f.weeks)
-      × (start (slot_lengths f x.total) 2 ≡ start (slot_lengths f x.total) 1 + 3 * x.total)
-      × (start (slot_lengths f x.total) 3 ≡ start (slot_lengths f x.total) 2 + 4 * (f.customers * f.products * f.weeks))
-  unfolding start
-  starts = (omega arith, omega arith, omega arith, omega arith)
+  -- the length of each, and of the file
+  pub body_size : (place : ℕ) → length (body_in x place) ≡ get_or (slot_lengths f x.total) place 0
+  body_size place = sym (body_length (slot_bodies f (slots_in x)) place) ∙ ap (λ (l : List ℕ). get_or l place 0) listed
 
-  -- ---- the file, section by section: the contents and the first i bodies
-  abbrev pub first_of : ℕ → List ℕ
-  first_of = first_bodies 3 41 (slot_bodies f (slots_in x))
-
-  pub file_stored : first_of 3 ≡ file_in x
-  unfolding slot_file slot_bodies
-  file_stored = all_stored 3 41 (slot_bodies f (slots_in x))
-
-  pub contents_stored : contents_bytes 3 41 (slot_lengths f x.total) ≡ first_of 0
-  contents_stored = contents_first 3 41 (slot_bodies f (slots_in x)) (slot_lengths f x.total) listed
-
-  -- body i, stored in the stretch that is lent from its start on
-  pub body_next : (i at : ℕ) (first out lent : List ℕ) → out ≡ store first 0 (first_of i) → at ≡ start (slot_lengths f x.total) i
-      → at ≤ length out → lent ≡ store (mid_of at (length out - at) out) 0 (body_in x i)
-      → put_mid at (length out - at) out lent ≡ store first 0 (first_of (i + 1))
-  body_next i at first out lent o a l e =
-      ap (put_mid at (length out - at) out) e
-      ∙ stretch_stored 3 41 (slot_bodies f (slots_in x)) (slot_lengths f x.total) listed first out i at o a l
+  pub file_size : length (file_of slot_kind.number slot_kind.first (slot_bodies f (slots_in x)))
+      ≡ start (slot_lengths f x.total) slot_kind.sections
+  file_size = file_length 3 41 (slot_bodies f (slots_in x)) ∙ ap (λ (l : List ℕ). start l (length l)) listed

@@ -1,7 +1,7 @@
--- The slots that a plan shows, their file and its bodies. Assumes nothing.
+-- The slots that a plan shows, and the bodies of their file. Assumes nothing.
 use Rattle.std.specs.Prelude.{ℕ, List, [], get_or}
 use Rattle.slot_file.specs.Slots.{Slot, Slots}
-use Rattle.slot_file.specs.File.{slot_bodies, slot_file}
+use Rattle.slot_file.specs.File.{slot_bodies}
 use Rattle.passed_plan.specs.Shown.{week_count, shown_in}
 use Rattle.slot_return.specs.declared.ShownSlots.{ShownSlots}
 
@@ -19,6 +19,3 @@ week_in x w = (slots_in x).line.week w
 -- the body in a place
 abbrev pub body_in : ShownSlots → ℕ → List ℕ
 body_in x i = get_or (slot_bodies x.plan.shape (slots_in x)) i []
-
-abbrev pub file_in : ShownSlots → List ℕ
-file_in x = slot_file x.plan.shape (slots_in x)

@@ -13,11 +13,11 @@ pub struct Minutes(pub u64);
 #[derive(Clone, Copy, Debug, PartialEq, Eq, PartialOrd, Ord)]
 pub struct Grams(pub u64);
 
-// Mass of each product.
+// Mass of each product: an array of the most products, as 01-scope has the state, and with no heap.
 #[derive(Clone, Copy)]
 pub struct ProductGrams(pub [u64; 16]);
 
-// Mass of each pair of a customer and a product.
+// Mass of each pair of a customer and a product, likewise.
 #[derive(Clone, Copy)]
 pub struct PairGrams(pub [u32; 128]);
 

@@ -3,6 +3,7 @@ use Rattle.std.proofs.Common.{arith, ◌≡◌, false}
 use lib.Dec.{eqb}
 use borrow.Author.Tests.{ne_eqb, eq-eqb}
 use native.Mathlib.Numerals.{add-one}
+use Rattle.std.proofs.lemmas.Bool.Decides.{nat_tests}
 use Rattle.mathematics.proofs.Below.{all_fails}
 use Rattle.contents.specs.Contents.{offset, edge, placed}
 use Rattle.contents.proofs.Entries.{offset_read, extent_read}
@@ -32,4 +33,4 @@ returns c =
     let e : c.loop-i.i ≡ c.args.count = omega arith in
     let end = rw e at c.loop-i.invariant.0 in
     let all = rw e at c.loop-i.invariant.1 in
-    rw (end, all)
+    rw (end, all) (grind (arith, nat_tests))

@@ -1,11 +1,11 @@
 -- `contents::section_start` meets its contract: the next body begins within 4 bytes' reach. Assumes nothing.
-use Rattle.std.proofs.Common.{◌≡◌, ◌+◌, arith, sym, ◌∙◌, ap}
+use Rattle.std.proofs.Common.{◌≡◌, ◌+◌, arith, ◌∙◌, ap}
 use Rattle.contents.specs.File.{start}
 use Rattle.contents.proofs.Entries.{start_zero, start_next, start_below}
 use Rattle.contents.proofs.section_start.Goals as goal
 
 pub loop-i-init : goal.loop-i-init
-loop-i-init c = sym (start_zero c.args.lengths.now)
+loop-i-init c = omega (arith, start_zero c.args.lengths.now)
 
 pub overflow_add-at-in-loop-i : goal.overflow_add-at-in-loop-i
 overflow_add-at-in-loop-i c =

@@ -25,5 +25,6 @@ returns-in_err-checked_mul c =
 pub returns : goal.returns
 unfolding with_digit
 returns c =
-    rw (sym c.is_ascii_digit.ensures.value ∙ c.if-not-is_ascii_digit.false, ← c.from.ensures, ← c.in_ok-checked_mul.ensures.1)
-    (some_if _ _ _ c.checked_add.ensures)
+    let a = c.args in
+    let sum : a.n * 10 + (a.digit - 48) ≡ c.in_ok-checked_mul.field-0 + c.from.result = omega (arith, c.in_ok-checked_mul.ensures) in
+    rw (sym c.is_ascii_digit.ensures.value ∙ c.if-not-is_ascii_digit.false, sum) (some_if _ _ _ c.checked_add.ensures)

@@ -1,7 +1,7 @@
 -- `passed_plan::product_at` meets its contract: no product below `i` has the place. Assumes nothing.
 use native.Mathlib.Omega.{arith}
 use mathlib.Core.Path.{sym, ◌∙◌}
-use Rattle.plan_file.specs.Plan.{plan_of}
+use Rattle.plan_file.specs.Accepted.{plan_in}
 use Rattle.rules.specs.Rules.{week_of}
 use Rattle.passed_plan.specs.Shown.{week_product}
 use Rattle.passed_plan.proofs.Firsts.{product_found}
@@ -11,5 +11,6 @@ pub returns-then-position-place : goal.returns-then-position-place
 unfolding week_product week_of
 returns-then-position-place c =
     let a = c.args in
-    let week = week_of (plan_of a.f a.plan.now).line a.week in
-    product_found a.f.products week a.k c.loop-i.i (omega arith) c.loop-i.invariant (sym c.position.ensures.0 ∙ c.if-position-place.true)
+    let b = c.loop-i in
+    let week = week_of (plan_in a.plan).line a.week in
+    product_found a.plan.shape.products week a.k b.i (omega arith) b.invariant (sym c.position.ensures.0 ∙ c.if-position-place.true)

@@ -6,4 +6,4 @@ use Rattle.passed_plan.specs.Shown.{week_count}
 use Rattle.passed_plan.proofs.slot_total.Given as goal
 
 abbrev pub invariant-loop-week : goal.invariant-loop-week
-invariant-loop-week l = (l.sum ≡ sum_below l.week (week_count l.fn.f l.fn.plan)) × (l.sum ≤ l.week * 255)
+invariant-loop-week l = (l.sum ≡ sum_below l.week (week_count l.fn.plan.shape l.fn.plan.bytes.now)) × (l.sum ≤ l.week * 255)

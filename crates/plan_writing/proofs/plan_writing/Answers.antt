@@ -11,7 +11,6 @@ use Rattle.plant_file.specs.Plant.{plant_of}
 use Rattle.plan_file.specs.File.{plan_file}
 use Rattle.slot_file.specs.Slots.{slots_of}
 use Rattle.slot_file.specs.Form.{slot_form}
-use Rattle.machine.specs.Run.{run}
 use Rattle.std.proofs.lemmas.Result.{err_from_is_err_and}
 use Rattle.machine.specs.State.{Step}
 use Rattle.model.specs.RunTables.{run_tables}
@@ -91,10 +90,10 @@ returns-in_err-state c =
     let n = err_from_is_err_and c.from_residual-in_err-state.result c.from_residual-in_err-state.ensures.1 in
     record { result = rw (n.1, n.2) r.0; output = r.1 }
 
-pub invariant_of-write_tables : goal.invariant_of-write_tables
-invariant_of-write_tables c =
-    let d = (goal.at.invariant_of-write_tables c).In_ok-slots in
-    let h = ran (goal.at.invariant_of-write_tables c).In_ok-state in
+pub invariant_of-write_where_room : goal.invariant_of-write_where_room
+invariant_of-write_where_room c =
+    let d = (goal.at.invariant_of-write_where_room c).In_ok-slots in
+    let h = ran (goal.at.invariant_of-write_where_room c).In_ok-state in
     let shape = same_shape d in
     let profit = ap (λ (r : Step). r.state.profit.0) c.in_ok-state.ensures ∙ profit_is _ _ _ h in
     record {
@@ -103,7 +102,7 @@ invariant_of-write_tables c =
     }
 
 pub returns : goal.returns
-unfolding plan_answer
+unfolding plan_answer plan_file
 returns c =
     let d = (goal.at.returns c).In_ok-slots in
     let out = c.args.out.now in
@@ -112,6 +111,6 @@ returns c =
     let answer : plan_answer (plant d) (slots d) ≡ tables (f d) = rw (h.plant_good, h.slots_good, h.continued) in
     let written = ap tables (same_shape d) ∙ sym answer ∙ same_answer d in
     record {
-      result = c.write_tables.ensures.result ∙ ap (λ (a : Answer). written_in a out) written;
-      output = c.write_tables.ensures.output ∙ ap (λ (a : Answer). output_after a out) written;
+      result = c.write_where_room.ensures.result ∙ ap (λ (a : Answer). written_in a out) written;
+      output = c.write_where_room.ensures.output ∙ ap (λ (a : Answer). output_after a out) written;
     }

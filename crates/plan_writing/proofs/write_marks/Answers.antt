@@ -12,7 +12,7 @@ use Rattle.plan_writing.specs.Line.{marked_from, marked_to}
 use Rattle.plan_writing.proofs.WeekRows.{order_size, order_is, product_at_lem}
 use Rattle.plan_writing.proofs.Marks.{rise_is, marked_within, cell_below, none_stored, shut_stored, one_stored, all_stored}
 use Rattle.plan_writing.proofs.write_marks.Goals as goal
-use Rattle.plan_writing.proofs.write_marks.Goals.{After-marked_to-end, In-loop-k}
+use Rattle.plan_writing.proofs.write_marks.Goals.{After-marked_to-end}
 
 -- the slots that store
 module _ (c : After-marked_to-end) where

@@ -1,6 +1,6 @@
 -- `report::report_text` meets its contract. Assumes nothing.
 use native.Mathlib.Omega.{arith}
-use mathlib.Core.Path.{◌≡◌, refl, sym}
+use mathlib.Core.Path.{◌≡◌, sym}
 use mathlib.Core.List.{append-nil}
 use Rattle.std.specs.Prelude.{Err, Ok}
 use Rattle.passed_plan.specs.Judgement.{judgement_of}
@@ -24,17 +24,17 @@ passing c = judged_passing c.args.plant.now c.args.plan.now c.in-Ok.passed (pass
 facts : (c : After-write_first-at) → PassedText c.in-Ok.passed.shape c.args.plant.now c.args.plan.now
 facts c = passed_text _ c.args.plant.now c.args.plan.now _ (λ i. (c.type_inv.plan i).fits) (passing c)
 
+pub invariant_of-plant : goal.invariant_of-plant
+invariant_of-plant c =
+    record { accepted = (passing (goal.at.invariant_of-plant c).After-write_first-at).plant_good; octets = λ i. (c.type_inv.plant i).fits }
+
+pub invariant_of-plan : goal.invariant_of-plan
+invariant_of-plan c =
+    record { accepted = (passing (goal.at.invariant_of-plan c).After-write_first-at).plan_good; octets = λ i. (c.type_inv.plan i).fits }
+
 pub invariant_of-write_weeks : goal.invariant_of-write_weeks
 invariant_of-write_weeks c =
-    record { accepted = (passing (goal.at.invariant_of-write_weeks c).After-write_first-at).plant_good; octets = λ i. (c.type_inv.plant i).fits }
-
-pub invariant_of-write_weeks-in-Ok : goal.invariant_of-write_weeks-in-Ok
-invariant_of-write_weeks-in-Ok c =
-    record { accepted = (passing (goal.at.invariant_of-write_weeks-in-Ok c).After-write_first-at).plan_good; octets = λ i. (c.type_inv.plan i).fits }
-
-pub invariant_of-write_weeks-in-Ok-2 : goal.invariant_of-write_weeks-in-Ok-2
-invariant_of-write_weeks-in-Ok-2 c =
-    record { same = refl; ordered = (facts (goal.at.invariant_of-write_weeks-in-Ok-2 c).After-write_first-at).ordered }
+    record { ordered = (facts (goal.at.invariant_of-write_weeks c).After-write_first-at).ordered }
 
 pub write_weeks-requires : goal.write_weeks-requires
 write_weeks-requires c =

@@ -54,7 +54,7 @@ returns-then-not-is_backlog_carried c =
     record { result = r.0; output = r.1 }
 
 pub returns : goal.returns
-unfolding roll_passed
+unfolding roll_passed plant_file rolled_plant
 returns c =
     let a = c.args in
     let x = a.files in
@@ -68,6 +68,6 @@ returns c =
     let written : bytes (plant_file (rolled_plant P (plan_in x.plan) a.k (listed_rate c.in_ok-rates.rates.bytes.now))) ≡ file =
     λ u. bytes (plant_file (rolled_plant P (plan_same x u) a.k (listed_rate (c.in_ok-rates.ensures.0 u)))) in
     record {
-      result = c.write_left.ensures.result ∙ ap (λ (b : Answer). written_in b out) (written ∙ sym e);
-      output = c.write_left.ensures.output ∙ ap (λ (b : Answer). output_after b out) (written ∙ sym e);
+      result = c.write_where_room.ensures.result ∙ ap (λ (b : Answer). written_in b out) (written ∙ sym e);
+      output = c.write_where_room.ensures.output ∙ ap (λ (b : Answer). output_after b out) (written ∙ sym e);
     }

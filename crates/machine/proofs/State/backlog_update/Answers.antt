@@ -33,7 +33,7 @@ module _ (c : After-pair_sales-sold) where
       let pair = c.loop-pair.pair in
       c.from.result + c.pair_demand.result
       ≡ get_or c.args.self.backlog pair 0 + (week_in c.args.input c.args.week).demand (pair / n) (pair % n)
-  owed = rw (c.from.ensures, cell_next _ _ _ _ c.loop-pair.invariant.0, c.pair_demand.ensures.0)
+  owed = rw (c.from.ensures, cell_next _ _ _ _ c.loop-pair.invariant.0, c.pair_demand.ensures.0) (grind arith)
 
   owed_most : c.from.result + c.pair_demand.result ≤ most_backlog
   owed_most =

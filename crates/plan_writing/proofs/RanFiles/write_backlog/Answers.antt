@@ -1,14 +1,12 @@
 -- `plan_writing::RanFiles::write_backlog` meets its contract: the loop has stored the rows of the pairs below `pair`. Assumes nothing.
 use borrow.Author.Rules.{rules}
 use native.Mathlib.Omega.{arith}
-use native.Mathlib.Nat.{mul_comm, mul_assoc}
 use mathlib.Core.Path.{◌≡◌, ap, ◌∙◌}
 use Prim.Native.Nat.{ℕ, ◌+◌, ◌*◌, ◌/◌, ◌%◌, ◌≤◌, ◌<◌}
 use lib.ListN.{length, length-take, length-drop}
 use Rattle.mathematics.specs.Below.{join_below}
 use Rattle.numbers.specs.Number.{encode, store}
-use Rattle.numbers.proofs.Number.{room}
-use Rattle.sections.proofs.Bodies.{row_stored}
+use Rattle.sections.proofs.Bodies.{row_room, sized_row_stored}
 use Rattle.plan_writing.specs.Bodies.{section_of, row_in}
 use Rattle.plan_writing.specs.Files.{tables_in}
 use Rattle.plan_writing.proofs.Bodies.{body_is}
@@ -24,17 +22,7 @@ module _ (c : In-loop-pair) where
 
   -- the next row has room
   fits : 4 * c.from-size.result * c.loop-pair.pair + 4 * c.args.self.slots.shape.weeks ≤ length c.loop-pair.out
-  fits =
-      let f = c.args.self.slots.shape in
-      omega (
-        arith,
-        room (4 * f.weeks) below,
-        ap (λ (x : ℕ). x * c.loop-pair.pair) size_is,
-        mul_assoc 4 f.weeks (f.customers * f.products),
-        mul_comm f.weeks (f.customers * f.products),
-        c.requires,
-        c.loop-pair.invariant.0,
-      )
+  fits = omega (arith, row_room 4 c.args.self.slots.shape.weeks size_is below c.requires, c.loop-pair.invariant.0)
 
 pub write_backlog_row-requires : goal.write_backlog_row-requires
 write_backlog_row-requires c =
@@ -49,8 +37,8 @@ loop-pair-preserved c =
     let f = a.self.slots.shape in
     let owed = (tables_in a.self).backlog in (
       search rules,
-      row_stored 4 f.weeks (λ q. owed (q / f.products) (q % f.products)) a.out.now b.out _ b.pair (4 * c.from-size.result * b.pair) b.invariant.1
-          (ap (λ (x : ℕ). x * b.pair) (size_is d)) (omega (arith, fits d)) c.write_backlog_row.ensures,
+      sized_row_stored 4 f.weeks (λ q. owed (q / f.products) (q % f.products)) a.out.now b.out _ b.pair (4 * c.from-size.result) (size_is d)
+          b.invariant.1 (omega (arith, fits d)) c.write_backlog_row.ensures,
     )
 
 pub returns : goal.returns

@@ -2,29 +2,30 @@
 -- Assumes nothing.
 use borrow.Author.Rules.{rules}
 use native.Mathlib.Omega.{arith}
-use native.Mathlib.Nat.{mul_comm, mul_assoc}
 use mathlib.Core.Path.{◌≡◌, refl, sym, ap, ◌∙◌}
 use mathlib.Core.List.{List}
 use Prim.Native.Nat.{ℕ, suc, ◌+◌, ◌*◌, ◌-◌, ◌≤◌, ◌<◌}
 use lib.ListN.{length, get_or, length-take, length-drop}
 use Rattle.mathematics.specs.Below.{join_below}
 use Rattle.numbers.specs.Number.{encode, store}
-use Rattle.numbers.proofs.Number.{room, encode_ext}
+use Rattle.numbers.proofs.Number.{encode_ext}
 use Rattle.sections.specs.Section.{grid}
 use Rattle.sections.specs.declared.Shape.{Shape}
-use Rattle.sections.proofs.Bodies.{row_stored}
+use Rattle.sections.proofs.Bodies.{row_room, sized_row_stored}
 use Rattle.plan_file.specs.File.{plan_bodies}
 use Rattle.slot_file.specs.declared.SlotFile.{SlotFile}
 use Rattle.slot_file.specs.declared.WeekRow.{WeekRow}
 use Rattle.machine.specs.State.{inventory_of}
-use Rattle.machine.specs.Run.{after}
+use Rattle.machine.specs.declared.State.{State}
+use Rattle.machine.specs.Run.{opening, after}
+use Rattle.model.proofs.States.{opening_lengths}
 use Rattle.model.specs.RunTables.{run_tables}
 use Rattle.plan_writing.specs.declared.RanFiles.{RanFiles}
 use Rattle.plan_writing.specs.Ran.{RunWeek}
 use Rattle.plan_writing.specs.Bodies.{Shows, made_in, sold_in}
 use Rattle.plan_writing.specs.Files.{ran_plant, ran_slots, tables_in}
-use Rattle.plan_writing.proofs.RunWeeks.{few_products, inventory_first, inventory_next, inventory_covers, inventory_limit}
-use Rattle.plan_writing.proofs.Files.{products_same, row_runs}
+use Rattle.plan_writing.proofs.RunWeeks.{few_products, inventory_next, inventory_covers, inventory_limit}
+use Rattle.plan_writing.proofs.Files.{plant_is, products_same, row_runs}
 use Rattle.plan_writing.proofs.RanFiles.write_inventory.Goals as goal
 use Rattle.plan_writing.proofs.RanFiles.write_inventory.Goals.{In-loop-week}
 
@@ -77,28 +78,19 @@ module _ (e : In-loop-week) where
 
   -- the next week has room
   next_fits : 4 * e.from-size.result * e.loop-week.week + 4 * e.args.self.slots.shape.products ≤ length e.loop-week.out
-  next_fits =
-      let f = e.args.self.slots.shape in
-      omega (
-        arith,
-        room (4 * f.products) below,
-        ap (λ (x : ℕ). x * e.loop-week.week) size_is,
-        mul_assoc 4 f.products f.weeks,
-        mul_comm f.products f.weeks,
-        e.requires,
-        e.loop-week.invariant.0,
-      )
+  next_fits = omega (arith, row_room 4 e.args.self.slots.shape.products size_is below e.requires, e.loop-week.invariant.0)
 
 pub loop-week-init : goal.loop-week-init
+unfolding inventory_of
 loop-week-init c =
     let p = c.args.self in
-    let row = c.opening_row-inventory.ensures in (
+    let opens = c.opening_state.ensures ∙ ap opening (plant_is p) in (
       refl,
       refl,
       c.first_row-row.ensures.0,
       c.first_row-row.ensures.1,
-      row.1,
-      λ i l. row.0 i (omega (arith, l, products_same p)) ∙ inventory_first p.slots.shape p.plant.bytes.now p.slots.bytes.now p.ran i l,
+      rw opens (opening_lengths (ran_plant p)).inventory,
+      λ i l. ap (λ (s : State). get_or s.inventory i 0) opens,
     )
 
 pub add_production-requires : goal.add_production-requires
@@ -140,8 +132,8 @@ loop-week-preserved c =
     let stored = c.write_inventory_row.ensures.stored
     ∙ ap (store _ 0) (encode_ext 4 f.products _ (V b.week) (λ i l. left i l ∙ next_is p b.week i)) in (
       search rules,
-      row_stored 4 f.products V c.args.out.now b.out _ b.week (4 * c.from-size.result * b.week) b.invariant.1
-          (ap (λ (x : ℕ). x * b.week) (size_is e)) (omega (arith, next_fits e)) stored,
+      sized_row_stored 4 f.products V c.args.out.now b.out _ b.week (4 * c.from-size.result) (size_is e) b.invariant.1
+          (omega (arith, next_fits e)) stored,
       c.next-row.ensures.0 ∙ b.invariant.2,
       c.next-row.ensures.1 ∙ ap (λ (w : ℕ). w + 1) b.invariant.3,
       search rules,

@@ -15,5 +15,5 @@ invariant-loop-week l =
     let f = l.self.slots.shape in
     (length l.out ≡ length l.initial.out)
     × (l.out ≡ store l.initial.out 0 (join_below l.week (λ w. encode 4 f.products ((tables_in l.self).inventory w))))
-    × (l.row.file ≡ l.self.slots) × (l.row.week ≡ l.week) × (length l.inventory ≡ 26)
+    × (l.row.file ≡ l.self.slots) × (l.row.week ≡ l.week) × (length l.inventory ≡ 16)
     × Shows f.products (inventory_of (after (ran_plant l.self) (ran_slots l.self) l.week)) l.inventory

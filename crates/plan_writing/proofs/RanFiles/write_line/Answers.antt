@@ -13,7 +13,7 @@ use Rattle.numbers.proofs.Number.{room}
 use Rattle.sections.specs.Layout.{layout}
 use Rattle.sections.specs.declared.Layout.{Layout}
 use Rattle.sections.specs.declared.Shape.{Shape}
-use Rattle.sections.proofs.Bodies.{rows_length, row_stored}
+use Rattle.sections.proofs.Bodies.{rows_length, sized_row_stored}
 use Rattle.plant_file.specs.Plant.{Plant}
 use Rattle.plan_file.specs.Form.{plan_layout, plan_lengths}
 use Rattle.plan_file.specs.Plan.{Plan}
@@ -161,8 +161,7 @@ loop-week-preserved c =
     let row = row_in (f e) (tables_in a.self) a.place in
     let next : suc b.week ≡ b.week + 1 = omega arith in (
       search rules,
-      row_stored (width e) (columns e) row (start e) b.out _ b.week (size e * b.week) b.invariant.1
-          (ap (λ (n : ℕ). n * b.week) (size_is e)) (omega (arith, row_fits e))
+      sized_row_stored (width e) (columns e) row (start e) b.out _ b.week (size e) (size_is e) b.invariant.1 (omega (arith, row_fits e))
           (c.write_row.ensures ∙ ap (store _ 0) (ap (λ (w : ℕ). encode (width e) (columns e) (row w)) b.invariant.3)),
       c.next-row.ensures.0 ∙ b.invariant.2,
       c.next-row.ensures.1 ∙ ap (λ (w : ℕ). w + 1) b.invariant.3,

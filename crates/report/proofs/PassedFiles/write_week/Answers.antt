@@ -6,6 +6,7 @@ use mathlib.Core.List.{List, [], ◌∷◌, ◌++◌}
 use Prim.Native.Nat.{ℕ, ◌+◌, ◌<◌}
 use lib.ListN.{length, length-append}
 use Rattle.std.specs.Prelude.{Some}
+use Rattle.passed_plan.specs.Shown.{week_mounted}
 use Rattle.report.specs.Text.{line}
 use Rattle.report.proofs.StoredText.{rest_start, rest_step, rest_end}
 use Rattle.report.proofs.WeekText.{lines_in, lines_all, lines_next, lines_end}
@@ -14,7 +15,7 @@ use Rattle.report.proofs.PassedFiles.write_week.Goals.{After-minutes}
 
 module _ (c : After-minutes) where
   -- this slot's product is one of the plant's
-  known : c.product_at-product.result < c.args.self.plan.shape.products
+  known : c.product_at-product.result < c.args.self.files.plan.shape.products
   known = omega (arith, c.args.self.ordered.known c.args.week c.loop-k.k (omega arith) (omega arith))
 
   -- this slot's line, and the lines after it
@@ -34,14 +35,16 @@ module _ (c : After-minutes) where
   next =
       let a = c.args in
       let b = c.loop-k in
-      let change = rw a.self.same at c.changeover_to-change.ensures.minutes in
+      let change = rw (← a.self.files.same) at c.changeover_to-change.ensures.minutes in
       lines_next _ _ _ a.week b.mounted b.clock b.k _ _ _ (omega arith) c.product_at-product.ensures c.minutes.ensures.0 change
 
 pub loop-k-init : goal.loop-k-init
 loop-k-init c =
     let a = c.args in
-    let m = c.mounted_product-mounted.ensures in
-    (m.1, omega arith, refl, rest_start a.out.now a.at (rw m.0 (lines_all _ _ _ a.week)))
+    let f = a.self.files.plan.shape in
+    let m = rw (← a.self.files.same) at c.mounted_product-mounted.ensures in
+    let before = m.0 ∙ ap (week_mounted f a.self.files.plant.bytes.now a.self.files.plan.bytes.now) (omega arith) in
+    (m.1, omega arith, refl, rest_start a.out.now a.at (rw before (lines_all _ _ _ a.week)))
 
 pub write_line-p-requires : goal.write_line-p-requires
 write_line-p-requires c =

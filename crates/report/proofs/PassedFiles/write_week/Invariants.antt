@@ -10,5 +10,5 @@ use Rattle.report.proofs.PassedFiles.write_week.Given as goal
 
 abbrev pub invariant-loop-k : goal.invariant-loop-k
 invariant-loop-k l =
-    mounted_below l.self.plan.shape.products l.mounted × (l.clock ≤ 80000 * l.k) × (length l.out ≡ length l.initial.out)
+    mounted_below l.self.files.plan.shape.products l.mounted × (l.clock ≤ 80000 * l.k) × (length l.out ≡ length l.initial.out)
     × Rest l.initial.out l.at (week_in l.self l.week) l.p l.out (lines_in l.self l.week l.mounted l.clock l.k)

@@ -11,7 +11,7 @@ pub write_week-p-requires : goal.write_week-p-requires
 write_week-p-requires c =
     let a = c.args in
     let b = c.loop-week in
-    (search rules, omega (arith, b.invariant.1.end, join_room a.self.plan.shape.weeks (week_in a.self) b.week (omega arith)))
+    (search rules, omega (arith, b.invariant.1.end, join_room a.self.files.plan.shape.weeks (week_in a.self) b.week (omega arith)))
 
 pub loop-week-preserved : goal.loop-week-preserved
 loop-week-preserved c =

@@ -1,7 +1,8 @@
 -- `rolling::Rolled::shut_before` meets its contract. Assumes nothing.
 use mathlib.Core.Path.{◌≡◌, refl, ap, ◌∙◌}
 use mathlib.Core.Bool.{Bool, true, false, cond}
-use Prim.Native.Nat.{◌-◌}
+use native.Mathlib.Omega.{arith}
+use Prim.Native.Nat.{ℕ, ◌-◌}
 use mir.Val.{bool_byte}
 use Rattle.mathematics.specs.Week.{shut}
 use Rattle.sections.specs.declared.Shape.{Shape}
@@ -19,5 +20,7 @@ unfolding rolled_plant
 returns c =
     let r = c.args.self in
     let x = plan_in r.files.plan in
-    let shut_is = c.is_shut.ensures ∙ ap (λ (f : Shape). shut f.products (week_of x.line (r.weeks - 1))) r.files.same in
+    let week : c.is_shut.result ≡ shut r.files.plan.shape.products (week_of x.line (r.weeks - 1)) =
+    c.is_shut.ensures ∙ ap (λ (w : ℕ). shut r.files.plan.shape.products (week_of x.line w)) (omega arith) in
+    let shut_is = week ∙ ap (λ (f : Shape). shut f.products (week_of x.line (r.weeks - 1))) r.files.same in
     c.from.ensures ∙ (ap bool_byte shut_is ∙ byte_is (shut r.files.plant.shape.products (week_of x.line (r.weeks - 1))))

@@ -1,14 +1,12 @@
 -- `rolling::Rolled::write_demand` meets its contract. Assumes nothing.
 use borrow.Author.Rules.{rules}
 use native.Mathlib.Omega.{arith}
-use native.Mathlib.Nat.{mul_comm, mul_assoc}
 use mathlib.Core.Path.{◌≡◌, sym, ap, ◌∙◌}
 use Prim.Native.Nat.{ℕ, ◌+◌, ◌*◌, ◌/◌, ◌%◌, ◌-◌, ◌≤◌, ◌<◌}
 use lib.ListN.{length, length-take, length-drop}
 use Rattle.numbers.specs.Number.{store}
-use Rattle.numbers.proofs.Number.{room}
 use Rattle.sections.proofs.Tables.{cube_rows}
-use Rattle.sections.proofs.Bodies.{row_stored}
+use Rattle.sections.proofs.Bodies.{row_room, sized_row_stored}
 use Rattle.plant_file.specs.Accepted.{plant_in}
 use Rattle.rolling.proofs.Rolled.write_demand.Goals as goal
 use Rattle.rolling.proofs.Rolled.write_demand.Goals.{In-loop-pair}
@@ -25,17 +23,7 @@ module _ (c : In-loop-pair) where
 
   -- the next row has room
   fits : 4 * (c.from.result - c.args.self.weeks) * c.loop-pair.pair + 4 * left ≤ length c.loop-pair.out
-  fits =
-      let f = c.args.self.files.plant.shape in
-      omega (
-        arith,
-        room (4 * left) below,
-        ap (λ (x : ℕ). x * c.loop-pair.pair) size_is,
-        mul_assoc 4 left (f.customers * f.products),
-        mul_comm left (f.customers * f.products),
-        c.requires,
-        c.loop-pair.invariant.0,
-      )
+  fits = omega (arith, row_room 4 left size_is below c.requires, c.loop-pair.invariant.0)
 
 pub slice_bounds-write_demand_row-count : goal.slice_bounds-write_demand_row-count
 slice_bounds-write_demand_row-count c = omega (arith, fits (goal.at.slice_bounds-write_demand_row-count c).In-loop-pair)
@@ -56,8 +44,8 @@ loop-pair-preserved c =
     let p = plant_in a.self.files.plant in
     let wanted : ℕ → ℕ → ℕ = λ j w. p.demand (j / p.products) (j % p.products) (a.self.weeks + w) in (
       search rules,
-      row_stored 4 (left d) wanted a.out.now b.out _ b.pair (4 * (c.from.result - a.self.weeks) * b.pair) b.invariant.1
-          (ap (λ (x : ℕ). x * b.pair) (size_is d)) (omega (arith, fits d)) c.write_demand_row.ensures,
+      sized_row_stored 4 (left d) wanted a.out.now b.out _ b.pair (4 * (c.from.result - a.self.weeks)) (size_is d) b.invariant.1
+          (omega (arith, fits d)) c.write_demand_row.ensures,
     )
 
 pub returns : goal.returns

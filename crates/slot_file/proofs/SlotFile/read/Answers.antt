@@ -1,5 +1,6 @@
 -- `slot_file::SlotFile::read` meets its contract. Assumes nothing.
 use borrow.Author.Rules.{rules}
+use native.Mathlib.Omega.{arith}
 use mathlib.Core.Path.{sym, ◌∙◌}
 use Rattle.slot_file.proofs.SlotReads.{slot_shape}
 use Rattle.slot_file.proofs.SlotFile.read.Goals as goal
@@ -8,4 +9,5 @@ use Rattle.slot_file.proofs.SlotFile.read.Goals as goal
 pub invariant_of-result : goal.invariant_of-result
 invariant_of-result c =
     let e = sym c.slot_form.ensures ∙ c.in_ok-slot_form.was in
-    record { accepted = rw (slot_shape c.args.shape c.in_ok-slot_form.field-0 c.args.bytes.now e) at e; octets = search rules }
+    let good = rw (slot_shape c.args.shape c.in_ok-slot_form.field-0 c.args.bytes.now e) at e in
+    record { accepted = grind arith; octets = search rules }

@@ -1,5 +1,6 @@
 -- `plan_file::file::PlanFile::read` meets its contract. Assumes nothing.
 use borrow.Author.Rules.{rules}
+use native.Mathlib.Omega.{arith}
 use mathlib.Core.Path.{sym, ◌∙◌}
 use Rattle.plan_file.proofs.PlanReads.{plan_shape}
 use Rattle.plan_file.proofs.file.PlanFile.read.Goals as goal
@@ -8,4 +9,4 @@ pub invariant_of-result : goal.invariant_of-result
 invariant_of-result c =
     let e = sym c.plan_form.ensures ∙ c.in_ok-plan_form.was in
     let g = plan_shape c.args.shape c.args.bytes.now e in
-    record { accepted = rw g at e; octets = search rules }
+    let good = rw g at e in record { accepted = grind arith; octets = search rules }

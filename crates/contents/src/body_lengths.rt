@@ -4,8 +4,8 @@ ghost use Rattle.contents.specs.File.{Listable};
 
 use crate::{is_sized, section_start, write_contents};
 
-// A file's kind, the number of its first section, how many sections it has, and the lengths of their bodies: as many of the array, from the
-// first on.
+// A file's kind, the number of its first section, how many sections it has, and the length of each body. The array has room for twelve, the most
+// that a kind has: there is no heap.
 #[derive(Clone, Copy)]
 pub struct BodyLengths {
     pub kind: u64,

@@ -20,7 +20,7 @@ pub struct Entry {
     pub length: usize,
 }
 
-// A place in the contents of a file: a slice and a position, as 01-scope names the form.
+// A place in the contents of a file: a slice and a position, as paper 01 names the form.
 #[derive(Clone, Copy)]
 pub struct Cursor<'a> {
     pub src: &'a [u8],
@@ -97,7 +97,8 @@ fn has_numbers(s: &[u8], kind: u64, first: u64, count: usize) -> bool
     u64::from(s[0]) == kind && usize::from(s[1]) == count && numbered(s, first, count)
 }
 
-// Rows 1, 11 and 21.
+// Rows 1, 11 and 21. The kind is the number that stands in the file. It, the first section and the count are parameters here: the lengths, with
+// which `BodyLengths` has them, are not known yet.
 #[tactic(auto, unfolding(crate::specs::Contents::headed))]
 pub fn is_headed(s: &[u8], kind: u64, first: u64, count: usize) -> bool
     requires { (count < 256) × (first < 256) }

@@ -45,7 +45,7 @@ use Rattle.model.proofs.GivenPlans.{plan_agree, given_rules, given_inventory, gi
 use Rattle.model.proofs.Widths.{shown_fit}
 use Rattle.passed_plan.specs.Judgement.{Judgement, judgement_of}
 use Rattle.passed_plan.specs.Shown.{shown_in}
-use Rattle.passed_plan.proofs.PassedPlan.{Passing, passing_judged, PassedPlan, passed_plan}
+use Rattle.passed_plan.proofs.PassedFacts.{Passing, passing_judged, PassedFacts, passed_plan}
 use Rattle.calls.specs.Check.{check_from, check_of}
 use Rattle.calls.specs.Answer.{Answer, bytes, refused, form_answer, judged_answer, test_answer, roll_passed, roll_answer}
 use Rattle.demands.specs.OpeningMounted.{Passes}
@@ -88,7 +88,7 @@ module _ (plant : List ℕ) (f : Shape) (accepted : plant_form plant ≡ Ok f) (
   passing : Passing f plant plan h.profit
   passing = check_passing plant f accepted plan h.bytes h.profit h.passed
 
-  passed : PassedPlan f plant plan
+  passed : PassedFacts f plant plan
   passed = passed_plan f plant plan h.profit h.bytes passing
 
   g : Gives P S (after P S f.weeks) X

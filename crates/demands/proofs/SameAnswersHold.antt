@@ -31,7 +31,7 @@ use Rattle.model.specs.RunTables.{mounted_of, run_tables}
 use Rattle.model.specs.Rolled.{weeks_left, backlog_carried, rolled_plant}
 use Rattle.passed_plan.specs.Judgement.{Judgement, after_rows, after_rules, plan_judgement, judgement_of}
 use Rattle.passed_plan.specs.Shown.{shown_in}
-use Rattle.passed_plan.proofs.PassedPlan.{judged_passing, passed_plan}
+use Rattle.passed_plan.proofs.PassedFacts.{judged_passing, passed_plan}
 use Rattle.calls.specs.Check.{check_from, check_of}
 use Rattle.calls.specs.Answer.{bytes, form_answer, judged_answer, run_answer, test_answer, slot_answer, plan_answer, roll_passed, roll_answer}
 use Rattle.report.specs.Report.{first_line, lines_of, report_text}

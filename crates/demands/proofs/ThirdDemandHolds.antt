@@ -30,7 +30,7 @@ use Rattle.model.proofs.Widths.{run_fits, shown_fit}
 use Rattle.passed_plan.specs.declared.Pass.{Pass}
 use Rattle.passed_plan.specs.Judgement.{Judgement, judgement_of}
 use Rattle.passed_plan.specs.Shown.{shown_in}
-use Rattle.passed_plan.proofs.PassedPlan.{Passing, judged_passing, passing_judged, PassedPlan, passed_plan}
+use Rattle.passed_plan.proofs.PassedFacts.{Passing, judged_passing, passing_judged, PassedFacts, passed_plan}
 use Rattle.calls.specs.Check.{check_from, check_of}
 use Rattle.calls.specs.Answer.{bytes, slot_answer, plan_answer}
 use Rattle.calls.proofs.Output.{long_enough}
@@ -120,7 +120,7 @@ module _ (plant : List ℕ) (f : Shape) (accepted : plant_form plant ≡ Ok f) (
     passes : Passing f plant plan q
     passes = check_passing q e
 
-    passed : PassedPlan f plant plan
+    passed : PassedFacts f plant plan
     passed = passed_plan f plant plan q b passes
 
     slots_fit : SlotsFit f shown_slots

@@ -34,7 +34,7 @@ impl<const N: usize> Bytes<N> {
     }
 }
 
-// 65,536 zeros: as much of a file as the programs read, and room for each file that they write.
+// 65,536 zeros: room for each file that the programs write.
 pub fn large_buffer() -> [u8; 65536]
     ensures { 65536 ≡ length result }
 {
@@ -52,9 +52,9 @@ pub fn argument_count(rt: &impl Env) -> usize {
     usize::MAX
 }
 
-// Argument i. One that is missing or longer than 4,096 bytes counts as empty.
-pub fn argument(rt: &impl Env, i: usize) -> Argument {
-    let mut items = [0; 4096];
+// Argument i. One that is missing or longer than N bytes counts as empty.
+pub fn argument<const N: usize>(rt: &impl Env, i: usize) -> Bytes<N> {
+    let mut items = [0; N];
     let count = rt.arg(i, &mut items).unwrap_or(0);
     Bytes { items, count }
 }
@@ -75,9 +75,9 @@ fn read_full(file: &mut impl Read, buf: &mut [u8]) -> usize
     done
 }
 
-// The start of a file. One that cannot be read counts as empty.
-pub fn read_file(rt: &impl Files, path: &[u8]) -> FileBytes {
-    let mut items = large_buffer();
+// The start of a file, N bytes at most. One that cannot be read counts as empty.
+pub fn read_file<const N: usize>(rt: &impl Files, path: &[u8]) -> Bytes<N> {
+    let mut items = [0; N];
     let mut count = 0;
     if let Ok(path) = str::from_utf8(path)
         && let Ok(mut file) = fs::open(rt, path)
@@ -87,14 +87,15 @@ pub fn read_file(rt: &impl Files, path: &[u8]) -> FileBytes {
     Bytes { items, count }
 }
 
-// The start of the file that argument i names.
-pub fn read_named(rt: &(impl Env + Files), i: usize) -> FileBytes {
-    read_file(rt, argument(rt, i).as_slice())
+// The start of the file that argument i names, N bytes at most.
+pub fn read_named<const N: usize>(rt: &(impl Env + Files), i: usize) -> Bytes<N> {
+    let name: Argument = argument(rt, i);
+    read_file(rt, name.as_slice())
 }
 
 // Puts the bytes into the file that argument i names, in the place of what it held, and answers whether all are written.
 pub fn write_named(rt: &(impl Env + Files), i: usize, bytes: &[u8]) -> bool {
-    let name = argument(rt, i);
+    let name: Argument = argument(rt, i);
     let Ok(path) = str::from_utf8(name.as_slice()) else {
         return false;
     };
@@ -131,7 +132,8 @@ fn numeral_of(text: &[u8]) -> Option<u64>
 
 // The number that argument i names.
 pub fn named_number(rt: &impl Env, i: usize) -> Option<u64> {
-    numeral_of(argument(rt, i).as_slice())
+    let name: Argument = argument(rt, i);
+    numeral_of(name.as_slice())
 }
 
 // Does what a call that writes said: puts what it wrote into the file that argument i names and prints the length, or prints the
@@ -173,8 +175,8 @@ pub fn run_call<F: FnOnce(&[u8], &[u8], &mut [u8]) -> Result<usize, Refusal>>(
         let _ = eprintln!(rt; "{usage}");
         return;
     }
-    let first = read_named(rt, 1);
-    let second = read_named(rt, 2);
+    let first: FileBytes = read_named(rt, 1);
+    let second: FileBytes = read_named(rt, 2);
     let mut out = large_buffer();
     let written = call(first.as_slice(), second.as_slice(), &mut out);
     deliver(rt, written, &out, 3);

@@ -97,6 +97,10 @@ module _ (P : Plant) (v : WeekInput) (s : State) where
       → week_end P v s ≡ stops s n
   inventory_stopped due n e = week_stopped n (rw due e)
 
+  pub week_stops_lem : (o : Outcome) → o ≡ first_met tries → (n : Refusal) → o ≡ Err n → record { state = s; outcome = o } ≡ week_end P v s
+  unfolding week_end
+  week_stops_lem o e n d = rw (← e, d)
+
   pub week_continues : (o : Outcome) → o ≡ first_met tries → o ≡ Ok tt → week_end P v s ≡ continues (week_done P v s)
   unfolding week_end
   week_continues o e d = rw (← e, d)

@@ -39,8 +39,8 @@ pub struct LineState {
     pub mounted: Option<u8>,
 }
 
-// A number stands between the arrays and what has unused bytes comes last, and no array is indexed where it stands: the compiler can then
-// hold each field apart.
+// Arrays of the most that a plant may have: there is no heap. A number stands between them and what has unused bytes comes last, and no array is
+// indexed where it stands: the compiler can then hold each field apart.
 #[derive(Clone, Copy, Debug, PartialEq, Eq)]
 pub struct State {
     // Grams owed to customer c of product i, at c * N + i (the paper's owed).
@@ -169,7 +169,8 @@ impl State {
         Ok(())
     }
 
-    // One run: stop 25, 35 or 36, or the state after it.
+    // One run: stop 25, 35 or 36, or the state after it. What it asks of slot and state is a clause of the steps: a state has room for the
+    // week that it stands in, and a slot is one of a plant's.
     #[tactic(auto, unfolding(crate::specs::Machine::slot_step))]
     pub fn slot(self, plant: PlantFile, slot: Slot) -> Result<State, Stopped>
         requires { (slot.product < plant.shape.products) × (slot.minutes.0 < 2 ^ 16) × Roomy plant.shape self }
@@ -213,8 +214,8 @@ impl State {
         })
     }
 
-    // The sales taken from the inventory, product by product; stop 39 where they exceed it, and 40, which all products' sales come before,
-    // where what is left is outside its limits.
+    // The sales taken from the inventory, product by product; stop 39 where those of a product exceed it, and, once all are
+    // taken, stop 40 where what is left of one is outside its limits.
     fn inventory_update(self, input: RunInput, week: usize) -> Result<InventoryUpdate, Refusal>
         requires { (week < input.plant.shape.weeks) × Roomy input.plant.shape self }
         ensures { InventoryAnswer (plant_in input.entry.plant) (week_in input.entry week) self result }

@@ -4,7 +4,8 @@
 ghost use Rattle.std.specs.Prelude.{◌≡◌, ◌+◌, ◌≤◌, ◌<◌, ◌^◌, length};
 ghost use Rattle.numbers.specs.Number.{number_at, digits, store};
 
-// The number of k bytes at a place: from the last byte, the greatest, to the first.
+// The number of k bytes at a place: from the last byte, the greatest, to the first. A loop serves every width, where `from_le_bytes` takes
+// an array of one.
 pub fn read(s: &[u8], at: usize, k: usize) -> u64
     requires { (k ≤ 8) × (at + k ≤ length s.now) }
     ensures { (result ≡ number_at k s.now at) × (result < 256 ^ k) }

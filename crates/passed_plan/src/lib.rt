@@ -2,7 +2,7 @@
 // before each week.
 #![tactic(auto)]
 
-ghost use Rattle.std.specs.Prelude.{◌≡◌, ◌≤◌, ◌<◌};
+ghost use Rattle.std.specs.Prelude.{◌≡◌, ◌≤◌, ◌<◌, Ok};
 ghost use Rattle.mathematics.specs.Below.{sum_below};
 ghost use Rattle.costs.specs.Mounted.{mounted_below};
 ghost use Rattle.passed_plan.specs.Judgement.{plan_judgement, judgement_of};
@@ -21,6 +21,36 @@ pub struct Pass {
     pub profit: Profit,
 }
 
+// A plan file that passes with the plant file of its plant, and its profit.
+#[derive(Clone, Copy)]
+pub struct PassedPlan<'plant, 'plan> {
+    pub files: Candidate<'plant, 'plan>,
+    pub profit: Profit,
+    pub ghost passes: { judgement_of files.plant.bytes.now files.plan.bytes.now
+        ≡ Ok (record { shape = files.plant.shape; profit = profit }) },
+}
+
+impl<'plant, 'plan> PassedPlan<'plant, 'plan> {
+    ghost use Rattle.std.specs.Prelude.{Err, MatchResult};
+
+    // The files of these bytes, or the first refusal: the plant's rows, then the plan's, then the rules.
+    pub fn read(
+        plant: &'plant [u8],
+        plan: &'plan [u8],
+    ) -> Result<PassedPlan<'plant, 'plan>, Refusal>
+        ensures { MatchResult result
+            (λ passed. (passed.files.plant.bytes.now ≡ plant.now) × (passed.files.plan.bytes.now ≡ plan.now)
+            × (judgement_of plant.now plan.now ≡ Ok (record { shape = passed.files.plant.shape; profit = passed.profit })))
+            (λ refusal. judgement_of plant.now plan.now ≡ Err refusal) }
+    {
+        let plant = PlantFile::read(plant)?;
+        let plan = PlanFile::read(plan, plant.shape)?;
+        let files = Candidate { plant, plan };
+        let profit = files.judge()?;
+        Ok(PassedPlan { files, profit })
+    }
+}
+
 // What follows the plant's rows: the plan's rows, then the rules, each in order.
 #[tactic(auto, unfolding(crate::specs::Judgement::plan_judgement))]
 pub fn judge_plan(plant: PlantFile, plan: &[u8]) -> Result<Pass, Refusal>
@@ -33,12 +63,14 @@ pub fn judge_plan(plant: PlantFile, plan: &[u8]) -> Result<Pass, Refusal>
 }
 
 // The plant's rows, then the plan's, then the rules.
-#[tactic(auto, unfolding(crate::specs::Judgement::judgement_of))]
 pub fn judge_files(plant: &[u8], plan: &[u8]) -> Result<Pass, Refusal>
     ensures { result ≡ judgement_of plant.now plan.now }
 {
-    let plant = PlantFile::read(plant)?;
-    judge_plan(plant, plan)
+    let passed = PassedPlan::read(plant, plan)?;
+    Ok(Pass {
+        shape: passed.files.plant.shape,
+        profit: passed.profit,
+    })
 }
 
 // How many slots a week has.
@@ -61,21 +93,15 @@ pub fn slot_total(plan: PlanFile) -> usize
 }
 
 // The product of slot k of a week: the first whose place in the week is k + 1, or N where there is none.
-#[tactic(auto, using(crate::proofs::Firsts::no_product, crate::proofs::Firsts::none_more),
-// what the product of a slot is
-unfolding(crate::specs::Shown::week_product, rules::specs::Rules::week_of))]
 pub fn product_at(plan: PlanFile, week: usize, k: usize) -> usize
     requires { (week < plan.shape.weeks) × (k < 256) }
     ensures { result ≡ week_product plan.entry.shape plan.entry.bytes.now week k }
 {
     let n = usize::from(plan.shape.products);
     let place = k as u64 + 1;
-    for i in 0..n {
-        if plan.position(week, i) == place {
-            return i;
-        }
-    }
-    n
+    (0..n)
+        .position(|i| plan.position(week, i) == place)
+        .unwrap_or(n)
 }
 
 // What is mounted before a week.

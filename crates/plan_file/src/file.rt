@@ -27,7 +27,7 @@ impl<'a> PlanFile<'a> {
     ghost use Rattle.plan_file.specs.Tables.{product_table_of, most_of, changeover_table_of, pair_table_of, SumsOf};
     ghost use Rattle.plan_file.specs.Accepted.{plan_in};
 
-    // A plan file for a plant of this shape, or the number of the first row that turns it down.
+    // By rows of its own: a plan file for a plant of this shape, or the number of the first row that turns it down.
     pub fn read(bytes: &'a [u8], shape: Shape) -> Result<PlanFile<'a>, Refusal>
         ensures { MatchResult result
             (λ plan. (plan.bytes ≡ bytes.entry) × (plan.shape ≡ shape) × (plan_form shape bytes.entry.now ≡ Ok plan.shape))
@@ -161,6 +161,7 @@ impl<'a> PlanFile<'a> {
         sum
     }
 
+    // The sums of a week's marks into each product and out of it.
     pub fn arc_sums(self, table: ChangeoverTable, week: usize) -> ArcSums
         requires { (week < self.shape.weeks) × (self.shape.products ≤ 16) }
         ensures { SumsOf self.entry.shape.products (changeover_table_of table (plan_in self.entry).line week) result }
@@ -183,7 +184,8 @@ impl<'a> PlanFile<'a> {
         pair_number(self.bytes, self.shape, row, week)
     }
 
-    // The grams of a product sold in a week, over all customers.
+    // The grams of a product sold in a week, over all customers: one line over `sections`, with the place of a plan's sales, as is
+    // `write_sales`.
     pub fn sold(self, week: usize, product: usize) -> u64
         requires { (week < self.shape.weeks) × (product < self.shape.products) }
         ensures { (result ≡ sum_below self.entry.shape.customers (λ c. (plan_in self.entry).sales c product week)) × (result < 2 ^ 40) }

@@ -1,4 +1,4 @@
-// Plan files, kind 2: the rows of refusal, the numbers of each section, and the writing of them.
+// Plan files, kind 2: the rows of refusal, the tables by name, and the lengths of the bodies.
 #![tactic(auto)]
 
 ghost use Rattle.std.specs.Prelude.{◌≡◌, ◌≤◌, ◌<◌, ◌^◌, length, get_or};
@@ -22,8 +22,8 @@ const FIRST: u64 = 21;
 
 pub const SECTIONS: usize = 12;
 
-// The places of sections 21 to 32 in the contents. They stay numbers: the loops here and in plan writing go from place to place, and by an enum
-// would turn each place into its section and back.
+// The places of sections 21 to 32 in the contents. They are numbers: the loops here and in plan writing go from place to place, and an enum
+// of the sections would be made of each place only to give it back.
 pub const ASSIGNED: usize = ProductTable::Assigned as usize;
 
 pub const FIRST_MADE: usize = ProductTable::First as usize;
@@ -76,7 +76,7 @@ pub fn layout(f: Shape, place: usize) -> Layout
     }
 }
 
-// The length of each body.
+// The length of each body, by the layouts of plan files.
 fn lengths_of(f: Shape) -> [usize; 12]
     ensures { result ≡ plan_lengths f }
 {
@@ -131,7 +131,7 @@ fn is_binary(s: &[u8], f: Shape) -> bool
     assigned && first && last && within && between
 }
 
-// Rows 11 to 14: good, or the number of the first row that turns the plan down.
+// Rows 11 to 14, with refusals and a last row of their own: good, or the number of the first row that turns the plan down.
 #[tactic(auto, unfolding(crate::specs::Form::plan_form))]
 pub fn plan_form(s: &[u8], f: Shape) -> Result<Shape, Refusal>
     ensures { result ≡ plan_form f s.now }

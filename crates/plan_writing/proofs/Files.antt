@@ -1,18 +1,16 @@
 -- What the files of a run hold together. Assumes nothing.
-use Prim.Native.Nat.{◌<◌}
-use mathlib.Core.Path.{◌≡◌, ap, ◌∙◌}
+use Prim.Native.Nat.{◌≤◌}
+use mathlib.Core.Path.{◌≡◌, sym, ap, ◌∙◌}
 use native.Mathlib.Omega.{arith}
-use Rattle.mathematics.specs.Order.{is_order}
 use Rattle.sections.specs.declared.Shape.{Shape}
 use Rattle.plant_file.specs.Plant.{plant_of}
 use Rattle.plant_file.specs.Accepted.{plant_in}
-use Rattle.slot_file.specs.Slots.{slots_of, order_of_slots}
 use Rattle.slot_file.specs.declared.SlotFile.{SlotFile}
-use Rattle.slot_file.specs.declared.WeekRow.{WeekRow}
-use Rattle.plan_writing.specs.Ran.{RunWeek}
 use Rattle.plan_writing.specs.Files.{ran_plant}
 use Rattle.plan_writing.specs.declared.RanFiles.{RanFiles}
-use Rattle.plan_writing.proofs.RunWeeks.{week_once}
+use Rattle.plan_writing.specs.declared.RanWeek.{RanWeek}
+use Rattle.plan_writing.proofs.RunWeeks.{few_products, week_row}
+use Rattle.plan_writing.proofs.WeekRows.{RunWeek}
 
 module _ (files : RanFiles) where
   -- one shape
@@ -25,11 +23,19 @@ module _ (files : RanFiles) where
   pub plant_is : plant_in files.plant ≡ ran_plant files
   plant_is = ap (λ (f : Shape). plant_of f files.plant.bytes.now) plant_shape
 
+module _ (x : RanWeek) where
   -- no week has a product twice
-  pub row_runs : (row : WeekRow) → row.file ≡ files.slots → row.week < files.slots.shape.weeks → RunWeek row
-  row_runs row e l =
-      let once = week_once files.slots.shape files.plant.bytes.now files.slots.bytes.now files.ran row.week l in
-      record {
-        week = omega (arith, l, ap (λ (x : SlotFile). x.shape.weeks) e);
-        once = (λ u. is_order (e u).shape.products (order_of_slots ((slots_of (e u).shape (e u).bytes.now).line.week row.week))) ∙ once;
-      }
+  pub runs : RunWeek x.row
+  runs =
+      let files = x.files in
+      week_row files.slots.shape files.plant.bytes.now files.slots.bytes.now files.ran x.row (ap (λ (file : SlotFile). file.shape) x.same)
+      (ap (λ (file : SlotFile). file.bytes.now) x.same) x.known
+
+  pub row_products : x.row.file.shape.products ≡ x.files.slots.shape.products
+  row_products = ap (λ (file : SlotFile). file.shape.products) x.same
+
+  pub plant_products : x.files.plant.shape.products ≡ x.row.file.shape.products
+  plant_products = products_same x.files ∙ sym row_products
+
+  pub few_row : x.row.file.shape.products ≤ 16
+  few_row = omega (arith, row_products, few_products x.files.slots.shape x.files.plant.bytes.now x.files.ran.plant_good)

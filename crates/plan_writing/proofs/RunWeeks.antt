@@ -14,6 +14,7 @@ use Rattle.plant_file.specs.Form.{plant_form}
 use Rattle.plant_file.specs.Ranges.{PlantRanges}
 use Rattle.plant_file.proofs.PlantInRange.{plant_ranges}
 use Rattle.slot_file.specs.Slots.{WeekFormed, Slots, slots_of, order_of_slots}
+use Rattle.slot_file.specs.declared.WeekRow.{WeekRow}
 use Rattle.slot_file.proofs.SlotReads.{slots_formed}
 use Rattle.machine.specs.declared.State.{State}
 use Rattle.machine.specs.State.{inventory_of, backlog_of, continues}
@@ -25,6 +26,7 @@ use Rattle.model.proofs.RunStates.{mounted_below_lem, ran_backlog, ran_inventory
 use Rattle.model.proofs.RunRules.{run_order}
 use Rattle.model.proofs.Stops.{WeekContinues, run_continued}
 use Rattle.plan_writing.specs.Ran.{Ran}
+use Rattle.plan_writing.proofs.WeekRows.{RunWeek}
 
 pub times_same : {a b x y : ℕ} → a ≡ b → x ≡ y → a * x ≡ b * y
 times_same e d = λ u. e u * d u
@@ -63,6 +65,13 @@ module _ (f : Shape) (plant slots : List ℕ) (h : Ran f plant slots) where
   -- no week has a product twice
   pub week_once : (w : ℕ) → w < f.weeks → is_order f.products (order_of_slots (S.line.week w)) ≡ true
   week_once w l = run_order P ranges S w (formed w l) (week_continues w l)
+
+  pub week_row : (row : WeekRow) → row.file.shape ≡ f → row.file.bytes.now ≡ slots → row.week < f.weeks → RunWeek row
+  week_row row g b l =
+      record {
+        week = omega (arith, l, ap (λ (k : Shape). k.weeks) g);
+        once = (λ u. is_order (g u).products (order_of_slots ((slots_of (g u) (b u)).line.week row.week))) ∙ week_once row.week l;
+      }
 
   -- what is mounted is one of the products
   pub mounted_known_lem : (w : ℕ) → w ≤ f.weeks → mounted_below f.products (mounted_at P S w)

@@ -1,16 +1,21 @@
 -- The slots of a week's row. Assumes nothing.
 use Prim.Native.Nat.{ℕ, ◌≤◌, ◌<◌}
 use mathlib.Core.Path.{◌≡◌, sym, ◌∙◌}
+use mathlib.Core.Bool.{true}
 use native.Mathlib.Omega.{arith}
 use lib.ListN.{length, get_or}
-use Rattle.mathematics.specs.Order.{order_at}
+use Rattle.mathematics.specs.Order.{is_order, order_at}
 use Rattle.mathematics.proofs.OrderTables.{OrderFacts, order_facts}
 use Rattle.slot_file.specs.Slots.{no_slot, order_of_slots}
 use Rattle.slot_file.specs.Accepted.{slots_in_week}
 use Rattle.slot_file.specs.declared.WeekRow.{WeekRow}
 use Rattle.slot_file.proofs.Orders.{order_length, order_at_lem}
 use Rattle.slot_file.proofs.SlotReads.{slots_formed, week_length}
-use Rattle.plan_writing.specs.Ran.{RunWeek}
+
+-- the row of a week that has no product twice
+pub record RunWeek (row : WeekRow) : Type 0 where
+  pub week : row.week < row.file.shape.weeks
+  pub once : is_order row.file.shape.products (order_of_slots (slots_in_week row)) ≡ true
 
 module _ {row : WeekRow} (h : RunWeek row) where
   pub row_size : length (slots_in_week row) ≡ row.count

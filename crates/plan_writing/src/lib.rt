@@ -12,7 +12,7 @@ ghost use Rattle.slot_file.specs.Accepted.{slots_in_week};
 ghost use Rattle.costs.specs.Mounted.{mounted_below};
 ghost use Rattle.model.specs.RunTables.{last_of, run_tables};
 ghost use Rattle.calls.specs.Answer.{plan_answer, written_in, output_after};
-ghost use Rattle.plan_writing.specs.Ran.{Ran, RunWeek, Cleared};
+ghost use Rattle.plan_writing.specs.Ran.{Ran, Cleared};
 ghost use Rattle.plan_writing.specs.Bodies.{section_of, Shows, made_in, sold_in};
 ghost use Rattle.plan_writing.specs.Line.{from_of, marked_from, marked_to, stride_in, mark_row, factor_in, amount_row};
 
@@ -27,7 +27,8 @@ use sections::{Refusal, Shape, area};
 use slot_file::{SlotFile, WeekRow};
 use units::{Minutes, Profit, Rate, produced};
 
-// ---- A week's row of E, F, L, Z, ZF or O: the slots from one on up to another store a number in a cell each.
+// ---- A week's row of E, F, L, Z, ZF or O: the slots from one on up to another store a number in a cell each. A table is named by the place of
+// its section, as the loop over the tables counts it.
 
 // The first slot that stores something, of `total`.
 #[tactic(auto, unfolding(crate::specs::Line::marked_from))]
@@ -65,42 +66,6 @@ fn stride_of(f: Shape, place: usize) -> usize
     }
 }
 
-// The product that the line comes from to slot k: what is mounted, or the slot before.
-fn from_product(row: WeekRow, mounted: Option<u8>, k: usize) -> usize
-    requires { RunWeek row × mounted_below row.file.shape.products mounted × (k ≤ row.count) × (1 ≤ row.count) }
-    ensures { (result ≡ from_of mounted (order_of_slots (slots_in_week row.entry)) k) × (result < row.entry.file.shape.products) }
-{
-    if k == 0 {
-        return match mounted {
-            None => 0,
-            Some(p) => usize::from(p),
-        };
-    }
-    row.product(k - 1)
-}
-
-// Stores the row in bytes of 0. A shut week stores nothing.
-fn write_marks(out: &mut [u8], row: WeekRow, mounted: Option<u8>, place: usize)
-    requires { RunWeek row × mounted_below row.file.shape.products mounted × (place < 6)
-        × Cleared (section_of row.file.shape place).columns out.old }
-    ensures { let f = row.entry.file.shape in out.new ≡ store out.old 0
-        (encode 1 (section_of f place).columns (mark_row f.products mounted (order_of_slots (slots_in_week row.entry)) place)) }
-{
-    if row.count == 0 {
-        return;
-    }
-    let stride = stride_of(row.file.shape, place);
-    let rise = u64::from(place == plan_file::POSITION);
-    let start = marked_from(row.count, place);
-    let end = marked_to(mounted, row.count, place);
-    let mut from = from_product(row, mounted, start);
-    for k in start..end {
-        let product = row.product(k);
-        write(out, stride * from + product, 1, 1 + rise * (k as u64));
-        from = product;
-    }
-}
-
 // ---- A week's row of T or P: each slot stores an amount in its product's cell.
 
 // What a run of a product stores: its minutes, or the grams that it makes.
@@ -114,45 +79,7 @@ fn amount_of(plant: PlantFile, place: usize, product: usize, minutes: u64) -> u6
     }
 }
 
-// Stores the row of numbers of `width` bytes, in bytes of 0.
-fn write_amounts(out: &mut [u8], plant: PlantFile, row: WeekRow, place: usize, width: usize)
-    requires { RunWeek row × (plant.shape.products ≡ row.file.shape.products) × (width ≤ 8) × Cleared (width * row.file.shape.products) out.old }
-    ensures { out.new ≡ store out.old 0
-        (encode width row.entry.file.shape.products (amount_row (plant_in plant.entry).line.rate place (slots_in_week row.entry))) }
-{
-    for k in 0..row.count {
-        let product = row.product(k);
-        let amount = amount_of(plant, place, product, row.minutes(k));
-        write(out, width * product, width, amount);
-    }
-}
-
-// ---- From week to week.
-
-// What is mounted after a week.
-fn mounted_after(row: WeekRow, mounted: Option<u8>) -> Option<u8>
-    requires { RunWeek row × (row.file.shape.products ≤ 16) }
-    ensures { result ≡ last_of mounted (order_of_slots (slots_in_week row.entry)) }
-{
-    if row.count == 0 {
-        return mounted;
-    }
-    Some(row.product(row.count - 1) as u8)
-}
-
-// Adds what each slot of a week makes to the inventory of its product.
-fn add_production(inventory: &mut [u64], plant: PlantFile, row: WeekRow)
-    requires { RunWeek row × (plant.shape.products ≡ row.file.shape.products) × (row.file.shape.products ≤ length inventory.old)
-        × ((i : ℕ) → i < row.file.shape.products → get_or inventory.old i 0 ≤ most_storage) }
-    ensures { let f = row.entry.file.shape in
-        Shows f.products (λ i. get_or inventory.old i 0 + made_in f plant.entry.bytes.now row.entry.file.bytes.now row.entry.week i) inventory.new }
-{
-    for k in 0..row.count {
-        let product = row.product(k);
-        let grams = produced(Rate(plant.rate(product)), Minutes(row.minutes(k)));
-        inventory[product] += grams.0;
-    }
-}
+// ---- A week's row of V.
 
 // Takes a week's sales from the number of each product, and stores what is left, the week's row of V.
 fn write_inventory_row(out: &mut [u8], row: &mut [u64], slots: SlotFile, week: usize)
@@ -172,7 +99,8 @@ fn write_inventory_row(out: &mut [u8], row: &mut [u64], slots: SlotFile, week: u
 
 // ---- The bodies and the file.
 
-// A plant file and a slot file for it whose run never stops, and the profit of that run.
+// A plant file and a slot file for it whose run never stops, and the profit of that run. The files stand by themselves, and not as a `RunInput`,
+// since every writer names them.
 #[derive(Clone, Copy)]
 struct RanFiles<'a> {
     plant: PlantFile<'a>,
@@ -182,35 +110,120 @@ struct RanFiles<'a> {
     ghost earned: { profit.0 ≡ (run_tables (plant_of slots.shape plant.bytes.now) (slots_of slots.shape slots.bytes.now)).profit },
 }
 
-impl RanFiles<'_> {
-    ghost use Rattle.std.specs.Prelude.{[], ◌/◌, ◌%◌};
-    ghost use Rattle.plan_file.specs.Form.{plan_lengths};
-    ghost use Rattle.plan_file.specs.File.{plan_bodies};
+// A week of such a run, and where its slots stand.
+#[derive(Clone, Copy)]
+struct RanWeek<'a> {
+    files: RanFiles<'a>,
+    row: WeekRow<'a>,
+    ghost same: { row.file ≡ files.slots },
+    ghost known: { row.week < files.slots.shape.weeks },
+}
+
+impl RanWeek<'_> {
     ghost use Rattle.model.specs.RunTables.{mounted_at};
     ghost use Rattle.plan_writing.specs.Bodies.{row_in};
     ghost use Rattle.plan_writing.specs.Files.{ran_plant, ran_slots, tables_in};
 
-    // Stores a week's row of one of the line's tables, in bytes of 0.
-    fn write_row(
-        self,
-        out: &mut [u8],
-        row: WeekRow,
-        mounted: Option<u8>,
-        place: usize,
-        width: usize,
-    )
-        requires { RunWeek row × (row.file ≡ self.slots) × (mounted ≡ mounted_at (ran_plant self) (ran_slots self) row.week) × (place < 8)
-            × (width ≡ (section_of self.slots.shape place).width) × Cleared (width * (section_of self.slots.shape place).columns) out.old }
-        ensures { let f = self.entry.slots.shape in out.new ≡ store out.old 0
-            (encode width (section_of f place).columns (row_in f (tables_in self.entry) place row.entry.week)) }
+    // The product that the line comes from to slot k: what is mounted, or the slot before.
+    fn from_product(self, mounted: Option<u8>, k: usize) -> usize
+        requires { mounted_below self.row.file.shape.products mounted × (k ≤ self.row.count) × (1 ≤ self.row.count) }
+        ensures { (result ≡ from_of mounted (order_of_slots (slots_in_week self.entry.row)) k)
+            × (result < self.entry.row.file.shape.products) }
     {
-        match place {
-            plan_file::MINUTES | plan_file::PRODUCTION => {
-                write_amounts(out, self.plant, row, place, width)
-            }
-            _ => write_marks(out, row, mounted, place),
+        if k == 0 {
+            return match mounted {
+                None => 0,
+                Some(p) => usize::from(p),
+            };
+        }
+        self.row.product(k - 1)
+    }
+
+    // Stores its row of E, F, L, Z, ZF or O in bytes of 0. A shut week stores nothing.
+    fn write_marks(self, out: &mut [u8], mounted: Option<u8>, place: usize)
+        requires { mounted_below self.row.file.shape.products mounted × (place < 6)
+            × Cleared (section_of self.row.file.shape place).columns out.old }
+        ensures { let f = self.entry.row.file.shape in out.new ≡ store out.old 0
+            (encode 1 (section_of f place).columns (mark_row f.products mounted (order_of_slots (slots_in_week self.entry.row)) place)) }
+    {
+        if self.row.count == 0 {
+            return;
+        }
+        let stride = stride_of(self.row.file.shape, place);
+        let rise = u64::from(place == plan_file::POSITION);
+        let start = marked_from(self.row.count, place);
+        let end = marked_to(mounted, self.row.count, place);
+        let mut from = self.from_product(mounted, start);
+        for k in start..end {
+            let product = self.row.product(k);
+            write(out, stride * from + product, 1, 1 + rise * (k as u64));
+            from = product;
         }
     }
+
+    // Stores its row of T or P, numbers of `width` bytes, in bytes of 0.
+    fn write_amounts(self, out: &mut [u8], place: usize, width: usize)
+        requires { (width ≤ 8) × Cleared (width * self.row.file.shape.products) out.old }
+        ensures { out.new ≡ store out.old 0
+            (encode width self.entry.row.file.shape.products
+            (amount_row (plant_in self.entry.files.plant).line.rate place (slots_in_week self.entry.row))) }
+    {
+        for k in 0..self.row.count {
+            let product = self.row.product(k);
+            let amount = amount_of(self.files.plant, place, product, self.row.minutes(k));
+            write(out, width * product, width, amount);
+        }
+    }
+
+    // Stores its row of one of the line's tables, in bytes of 0.
+    fn write_row(self, out: &mut [u8], mounted: Option<u8>, place: usize, width: usize)
+        requires { (mounted ≡ mounted_at (ran_plant self.files) (ran_slots self.files) self.row.week) × (place < 8)
+            × (width ≡ (section_of self.files.slots.shape place).width)
+            × Cleared (width * (section_of self.files.slots.shape place).columns) out.old }
+        ensures { let f = self.entry.files.slots.shape in out.new ≡ store out.old 0
+            (encode width (section_of f place).columns (row_in f (tables_in self.entry.files) place self.entry.row.week)) }
+    {
+        match place {
+            plan_file::MINUTES | plan_file::PRODUCTION => { self.write_amounts(out, place, width) }
+            _ => self.write_marks(out, mounted, place),
+        }
+    }
+
+    // What is mounted after it.
+    #[tactic(auto, using(crate::proofs::Files::few_row))]
+    fn mounted_after(self, mounted: Option<u8>) -> Option<u8>
+        ensures { result ≡ last_of mounted (order_of_slots (slots_in_week self.entry.row)) }
+    {
+        if self.row.count == 0 {
+            return mounted;
+        }
+        Some(self.row.product(self.row.count - 1) as u8)
+    }
+
+    // Adds what each of its slots makes to the inventory of its product.
+    fn add_production(self, inventory: &mut [u64])
+        requires { (self.row.file.shape.products ≤ length inventory.old)
+            × ((i : ℕ) → i < self.row.file.shape.products → get_or inventory.old i 0 ≤ most_storage) }
+        ensures { let f = self.entry.row.file.shape in
+            Shows f.products (λ i. get_or inventory.old i 0
+            + made_in f self.entry.files.plant.bytes.now self.entry.row.file.bytes.now self.entry.row.week i) inventory.new }
+    {
+        for k in 0..self.row.count {
+            let product = self.row.product(k);
+            let grams = produced(
+                Rate(self.files.plant.rate(product)),
+                Minutes(self.row.minutes(k)),
+            );
+            inventory[product] += grams.0;
+        }
+    }
+}
+
+impl RanFiles<'_> {
+    ghost use Rattle.std.specs.Prelude.{[], ◌/◌, ◌%◌};
+    ghost use Rattle.plan_file.specs.Form.{plan_lengths};
+    ghost use Rattle.plan_file.specs.File.{plan_bodies};
+    ghost use Rattle.plan_writing.specs.Files.{tables_in};
 
     // Stores one of the line's tables: E, F, L, Z, ZF, O, T or P.
     fn write_line(self, out: &mut [u8], place: usize)
@@ -225,8 +238,9 @@ impl RanFiles<'_> {
         let mut row = self.slots.first_row();
         let mut mounted = opening_mounted(self.plant);
         for week in 0..weeks {
-            self.write_row(&mut out[size * week..], row, mounted, place, x.width);
-            mounted = mounted_after(row, mounted);
+            let ran = RanWeek { files: self, row };
+            ran.write_row(&mut out[size * week..], mounted, place, x.width);
+            mounted = ran.mounted_after(mounted);
             row = row.next();
         }
     }
@@ -241,7 +255,7 @@ impl RanFiles<'_> {
         let sales = self.slots.sales_row(pair);
         let mut backlog = self.plant.pair_opening_backlog(pair);
         for week in 0..usize::from(self.slots.shape.weeks) {
-            let due = backlog + self.plant.week_demand(demand, week);
+            let due = backlog + demand.demand(week);
             backlog = due - sales.sales(week);
             write(out, 4 * week, 4, backlog);
         }
@@ -269,7 +283,7 @@ impl RanFiles<'_> {
         let mut inventory = opening_state(self.plant).inventory;
         let mut row = self.slots.first_row();
         for week in 0..usize::from(f.weeks) {
-            add_production(&mut inventory, self.plant, row);
+            RanWeek { files: self, row }.add_production(&mut inventory);
             write_inventory_row(&mut out[size * week..], &mut inventory, self.slots, week);
             row = row.next();
         }

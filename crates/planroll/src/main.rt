@@ -2,16 +2,16 @@
 // rates of a list, to OUT, and prints its length. A refusal prints its number and leaves OUT as it was.
 #![tactic(auto)]
 
-use files::{argument_count, deliver, large_buffer, named_number, read_named};
+use files::{FileBytes, argument_count, deliver, large_buffer, named_number, read_named};
 use rolling::roll;
 use std::rt::{Env, Files};
 
-// Not by `files::run_call`, which is of calls of two files.
+// With three files and a number, where `files::run_call` has two files.
 #[tactic(auto, using(files::proofs::Delivered::delivered))]
 fn write_plant(rt: &(impl Env + Files + Print + Eprint), k: u64) {
-    let plant = read_named(rt, 1);
-    let plan = read_named(rt, 2);
-    let rates = read_named(rt, 4);
+    let plant: FileBytes = read_named(rt, 1);
+    let plan: FileBytes = read_named(rt, 2);
+    let rates: FileBytes = read_named(rt, 4);
     let mut out = large_buffer();
     let written = roll(
         plant.as_slice(),

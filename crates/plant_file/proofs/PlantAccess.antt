@@ -1,11 +1,13 @@
 -- The numbers of an accepted plant file: each is in its range, and lies within the file. Assumes nothing.
 use Prim.Native.Nat.{ℕ, ◌+◌, ◌*◌, ◌/◌, ◌%◌, ◌≤◌, ◌<◌}
+use borrow.Author.Rules.{rules}
+use native.Mathlib.Omega.{arith}
 use mathlib.Core.Path.{◌≡◌, sym, ap, ◌∙◌}
 use mathlib.Core.List.{List}
 use lib.ListN.{get_or}
 use Rattle.mathematics.proofs.Pairs.{pair_of}
 use Rattle.contents.specs.Contents.{cell, Inside}
-use Rattle.sections.specs.Section.{Laid}
+use Rattle.sections.specs.Section.{Laid, Holds}
 use Rattle.sections.proofs.Rows.{holds_inside}
 use Rattle.plant_file.specs.declared.file.PlantFile.{PlantFile}
 use Rattle.plant_file.specs.declared.laid.LaidFile.{LaidFile}
@@ -33,6 +35,10 @@ module _ (x : PlantFile) (place : ℕ) (l : place < 11) {m j : ℕ} where
 
   pub held4 : 4 * m ≤ get_or (plant_lengths x.shape) place 0 → j < m → Inside x.bytes.now place 4 j
   held4 h = holds_inside (holds4 (laid_file x) place l {m = m} h) j
+
+-- section 5
+pub demand_held : (x : PlantFile) → Holds x.bytes.now 4 4 (x.shape.customers * x.shape.products * x.shape.weeks)
+demand_held x = holds4 (laid_file x) 4 (search rules) (omega arith)
 
 -- an answer, by its equation and the range of what it equals
 pub answer : {r x b : ℕ} → r ≡ x → x ≤ b → (r ≡ x) × (r ≤ b)

@@ -5,5 +5,4 @@ pub mod File
 pub mod Same
 pub mod Rates
 pub mod Ranges
-pub mod Rows
 pub mod Accepted

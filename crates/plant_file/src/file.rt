@@ -1,6 +1,8 @@
 // A plant file that is accepted: the numbers of each section, and the copying of its bodies.
-ghost use Rattle.std.specs.Prelude.{◌≡◌, Ok};
+ghost use Rattle.std.specs.Prelude.{◌≡◌, ◌+◌, ◌*◌, ◌/◌, ◌%◌, ◌≤◌, ◌<◌, Ok};
 ghost use Rattle.numbers.specs.Number.{Bytes};
+ghost use Rattle.contents.specs.Contents.{offset};
+ghost use Rattle.sections.specs.Limits.{most_demand};
 ghost use Rattle.plant_file.specs.Form.{plant_form};
 
 use crate::laid::LaidFile;
@@ -20,18 +22,27 @@ pub struct PlantFile<'a> {
     pub ghost octets: { Bytes bytes.now },
 }
 
+// Where a pair's demand stands in a file, week by week.
+#[derive(Clone, Copy)]
+pub struct PairDemand<'a> {
+    pub file: PlantFile<'a>,
+    pub pair: usize,
+    pub at: usize,
+    pub ghost known: { pair < file.shape.customers * file.shape.products },
+    pub ghost begins: { at ≡ offset file.bytes.now 4 + 4 * (pair * file.shape.weeks) },
+}
+
 impl<'a> PlantFile<'a> {
-    ghost use Rattle.std.specs.Prelude.{◌⊎◌, [], ◌*◌, ◌/◌, ◌%◌, ◌≤◌, ◌<◌, Err, MatchResult, length, get_or};
+    ghost use Rattle.std.specs.Prelude.{◌⊎◌, [], Err, MatchResult, length, get_or};
     ghost use Rattle.numbers.specs.Number.{store};
-    ghost use Rattle.sections.specs.Limits.{most_rate, most_changeover_minutes, most_changeover_cents, most_demand, most_unit_cost, most_storage};
+    ghost use Rattle.sections.specs.Limits.{most_rate, most_changeover_minutes, most_changeover_cents, most_unit_cost, most_storage};
     ghost use Rattle.sections.specs.Limits.{most_opening_backlog, nothing_mounted, most_week_minutes};
     ghost use Rattle.plant_file.specs.Kinds.{plant_kind};
     ghost use Rattle.plant_file.specs.Form.{plant_lengths};
     ghost use Rattle.plant_file.specs.File.{plant_bodies};
-    ghost use Rattle.plant_file.specs.Rows.{DemandRow};
     ghost use Rattle.plant_file.specs.Accepted.{plant_in};
 
-    // The file of these bytes, or the number of the first row that turns it down.
+    // By rows of its own: the file of these bytes, or the number of the first row that turns it down.
     pub fn read(bytes: &'a [u8]) -> Result<PlantFile<'a>, Refusal>
         ensures { MatchResult result
             (λ plant. (plant.bytes.now ≡ bytes.now) × (plant_form bytes.now ≡ Ok plant.shape))
@@ -138,29 +149,25 @@ impl<'a> PlantFile<'a> {
     // ---- The tables by customer and product, by pair: customer times the count of products, plus product.
 
     // Where a pair's demand stands, week by week.
-    pub fn demand_row(self, pair: usize) -> PairRow
+    #[tactic(auto, using(crate::proofs::PlantAccess::demand_held))]
+    pub fn demand_row(self, pair: usize) -> PairDemand<'a>
         requires { pair < self.shape.customers * self.shape.products }
-        ensures { DemandRow self.entry.shape self.entry.bytes.now result × (result.pair ≡ pair) }
+        ensures { (result.file ≡ self.entry) × (result.pair ≡ pair) }
     {
-        pair_row(self.bytes, self.shape, DEMAND, pair)
+        let row = pair_row(self.bytes, self.shape, DEMAND, pair);
+        PairDemand {
+            file: self,
+            pair,
+            at: row.at,
+        }
     }
 
-    // Grams that its customer wants of its product in a week.
-    pub fn week_demand(self, row: PairRow, week: usize) -> u64
-        requires { DemandRow self.shape self.bytes.now row × (week < self.shape.weeks) }
-        ensures { let p = plant_in self.entry in
-            (result ≡ p.demand (row.pair / p.products) (row.pair % p.products) week) × (result ≤ most_demand) }
-    {
-        pair_number(self.bytes, self.shape, row, week)
-    }
-
-    // The same of a pair.
+    // Section 5: grams that a pair's customer wants of its product in a week.
     pub fn pair_demand(self, pair: usize, week: usize) -> u64
         requires { (pair < self.shape.customers * self.shape.products) × (week < self.shape.weeks) }
         ensures { let p = plant_in self.entry in (result ≡ p.demand (pair / p.products) (pair % p.products) week) × (result ≤ most_demand) }
     {
-        let row = self.demand_row(pair);
-        self.week_demand(row, week)
+        self.demand_row(pair).demand(week)
     }
 
     // Cents a kilogram that a pair's customer pays for its product.
@@ -201,5 +208,23 @@ impl<'a> PlantFile<'a> {
     {
         let e = entry_in(self.bytes, place);
         copy_section(out, self.bytes, place, 1, e.length);
+    }
+}
+
+impl PairDemand<'_> {
+    ghost use Rattle.plant_file.specs.Accepted.{plant_in};
+
+    // Section 5: grams that the pair's customer wants of its product in a week.
+    pub fn demand(self, week: usize) -> u64
+        requires { week < self.file.shape.weeks }
+        ensures { let p = plant_in self.entry.file in
+            (result ≡ p.demand (self.entry.pair / p.products) (self.entry.pair % p.products) week) × (result ≤ most_demand) }
+    {
+        let row = PairRow {
+            section: DEMAND,
+            pair: self.pair,
+            at: self.at,
+        };
+        pair_number(self.file.bytes, self.file.shape, row, week)
     }
 }

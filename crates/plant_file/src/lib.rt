@@ -1,4 +1,4 @@
-// Plant files, kinds 1 and 4: the rows of refusal, the numbers of each section, and the writing of them; lists of rates.
+// Plant files, kinds 1 and 4: the rows of refusal, the lengths of the bodies, and the writing of sections; lists of rates.
 #![tactic(auto)]
 
 ghost use Rattle.std.specs.Prelude.{◌≡◌, ◌++◌, ◌+◌, ◌*◌, ◌^◌, ◌≤◌, ◌<◌, length, get_or};
@@ -18,7 +18,7 @@ mod laid;
 mod rates;
 
 use contents::{BodyLengths, entry_in, is_headed, is_placed};
-pub use file::PlantFile;
+pub use file::{PairDemand, PlantFile};
 use laid::LaidFile;
 use numbers::{read, write};
 pub use rates::RateList;
@@ -89,7 +89,7 @@ struct PlantKind {
     diagonals: bool,
 }
 
-// The table of kinds. The kind stays a byte, as a shape may have any byte: one that is no kind's has what kind 1 has, and row 1 refuses it.
+// The table of kinds. The kind is a byte, as a shape may have any byte: one that is no kind's has what kind 1 has, and row 1 refuses it.
 #[tactic(auto, unfolding(crate::specs::Kinds::plant_kind))]
 fn plant_kind(kind: u8) -> PlantKind
     ensures { result ≡ plant_kind kind }
@@ -172,7 +172,7 @@ fn is_in_limits(f: Shape) -> bool
         && (1..=MOST_WEEKS).contains(&u64::from(f.weeks))
 }
 
-// The length of each body of sections 1 to 12. A kind has the first of them, as many as it has sections.
+// The length of each body of sections 1 to 12, each by its own table. A kind has the first of them, as many as it has sections.
 fn lengths_of(f: Shape) -> [usize; 12]
     ensures { result ≡ all_lengths f }
 {
@@ -293,7 +293,7 @@ pub fn rates_form(rates: &[u8], f: Shape) -> Result<Shape, Refusal>
     Ok(f)
 }
 
-// ---- The writing of a plant file: its contents, then each body at the start of its own stretch.
+// ---- The writing of sections, each at the start of what is lent.
 
 // Stores section 1.
 pub fn write_shape(out: &mut [u8], f: Shape)

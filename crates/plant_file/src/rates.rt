@@ -14,9 +14,8 @@ pub struct RateList<'a> {
 }
 
 impl<'a> RateList<'a> {
-    ghost use Rattle.std.specs.Prelude.{Err, MatchResult, ◌*◌, ◌≤◌, ◌<◌, length};
+    ghost use Rattle.std.specs.Prelude.{Err, MatchResult, ◌*◌, ◌≤◌, length};
     ghost use Rattle.numbers.specs.Number.{encode, store};
-    ghost use Rattle.sections.specs.Limits.{most_rate};
     ghost use Rattle.plant_file.specs.Rates.{listed_rate};
 
     // The list of these bytes, or the number of its refusal.
@@ -28,14 +27,6 @@ impl<'a> RateList<'a> {
     {
         rates_form(bytes, shape)?;
         Ok(RateList { bytes, shape })
-    }
-
-    // Grams a minute of a product.
-    pub fn rate(self, product: usize) -> u64
-        requires { product < self.shape.products }
-        ensures { (result ≡ listed_rate self.entry.bytes.now product) × (1 ≤ result) × (result ≤ most_rate) }
-    {
-        listed_rate(self.bytes, product)
     }
 
     // Stores section 2.

@@ -28,7 +28,8 @@ use Rattle.model.proofs.RunStates.{slots_clock}
 use Rattle.model.proofs.Stops.{WeekContinues}
 use Rattle.model.proofs.GivenPlans.{continued}
 use Rattle.passed_plan.specs.Shown.{shown_in, Ordered}
-use Rattle.passed_plan.proofs.PassedPlan.{Passing, PassedPlan, passed_plan}
+use Rattle.passed_plan.specs.declared.PassedPlan.{PassedPlan}
+use Rattle.passed_plan.proofs.PassedFacts.{Passing, PassedFacts, passed_plan, files_passing}
 use Rattle.report.specs.Text.{line}
 use Rattle.report.specs.Report.{slot_lines, week_lines}
 use Rattle.report.specs.Weeks.{week_text}
@@ -72,7 +73,7 @@ pub record PassedText (f : Shape) (plant plan : List ℕ) : Type 0 where
   pub lines : join_below f.weeks (week_text f plant plan) ≡ week_lines (plant_of f plant) (shown_in f plan)
   pub most : length (join_below f.weeks (week_text f plant plan)) ≤ 9984
 
-module _ (f : Shape) (plant plan : List ℕ) (p : PassedPlan f plant plan) where
+module _ (f : Shape) (plant plan : List ℕ) (p : PassedFacts f plant plan) where
   week_text_lem : (w : ℕ) → w < f.weeks → week_text f plant plan w
       ≡ slot_lines (plant_of f plant) w (mounted_at (plant_of f plant) (shown_in f plan) w) 0 ((shown_in f plan).line.week w)
   unfolding week_text
@@ -100,3 +101,9 @@ passed_text f plant plan q bytes h =
       lines = passed_lines f plant plan p;
       most = passed_most f plant plan p;
     }
+
+-- of files that pass
+pub files_text : (x : PassedPlan) → PassedText x.files.plan.shape x.files.plant.bytes.now x.files.plan.bytes.now
+files_text x =
+    let y = x.files in
+    rw y.same (passed_text y.plant.shape y.plant.bytes.now y.plan.bytes.now x.profit y.plan.octets (files_passing x))

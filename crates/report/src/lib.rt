@@ -10,9 +10,7 @@ ghost use Rattle.report.specs.Stored.{Stored};
 ghost use Rattle.report.specs.Report.{first_line, report_text};
 
 use costs::changeover_to;
-use passed_plan::{judge_files, mounted_product, product_at, week_count};
-use plan_file::PlanFile;
-use plant_file::PlantFile;
+use passed_plan::{PassedPlan, mounted_product, product_at, week_count};
 use rules::Candidate;
 use sections::Refusal;
 use units::Profit;
@@ -41,7 +39,8 @@ fn digit_count(v: u64) -> usize
     v.max(1).ilog10() as usize + 1
 }
 
-// The digits, from the last one back.
+// The digits, from the last one back. By hand: `write!` gives its text to a writer that may refuse it, and the contract is an equation with
+// the text.
 fn write_decimal(out: &mut [u8], at: usize, v: u64) -> usize
     requires { at + length (decimal v) ≤ length out.old }
     ensures { Stored out.old at (decimal v) result out.new }
@@ -160,17 +159,11 @@ pub fn report_text(plant: &[u8], plan: &[u8], out: &mut [u8; 16384]) -> usize
     ensures { (result ≤ length out.new) × (result ≡ length (report_text plant.now plan.now))
         × (out.new ≡ store out.old 0 (report_text plant.now plan.now)) }
 {
-    match judge_files(plant, plan) {
+    match PassedPlan::read(plant, plan) {
         Err(refusal) => write_first(out, Err(refusal)),
         Ok(passed) => {
             let at = write_first(out, Ok(passed.profit));
-            let shape = passed.shape;
-            let plant = PlantFile {
-                bytes: plant,
-                shape,
-            };
-            let plan = PlanFile { bytes: plan, shape };
-            let files = Candidate { plant, plan };
+            let files = passed.files;
             PassedFiles { files }.write_weeks(out, at)
         }
     }

@@ -11,9 +11,9 @@ use calls::FileWriter;
 use contents::BodyLengths;
 use costs::mounted_number;
 use numbers::write;
-use passed_plan::mounted_product;
-use plan_file::{PairTable, PlanFile};
-use plant_file::{PlantFile, RateList, plant_length, write_mounted, write_shape};
+use passed_plan::{PassedPlan, mounted_product};
+use plan_file::PairTable;
+use plant_file::{RateList, plant_length, write_mounted, write_shape};
 use rules::{Candidate, is_shut};
 use sections::{Refusal, Shape, area};
 
@@ -47,13 +47,8 @@ impl Rolled<'_> {
         ensures { let x = self.entry.files in result ≡ backlog_carried (plant_in x.plant) (plan_in x.plan) self.entry.weeks }
     {
         let f = self.files.plant.shape;
-        for pair in 0..area(f.customers, f.products) {
-            let is_over = plant_file::MOST_OPENING_BACKLOG < self.backlog(pair);
-            if is_over {
-                return false;
-            }
-        }
-        true
+        (0..area(f.customers, f.products)).all(|pair| self.backlog(pair)
+            <= plant_file::MOST_OPENING_BACKLOG)
     }
 
     // A pair's backlog after these weeks.
@@ -90,7 +85,7 @@ impl Rolled<'_> {
         let plant = self.files.plant;
         let row = plant.demand_row(pair);
         for week in 0..usize::from(plant.shape.weeks) - self.weeks {
-            let demand = plant.week_demand(row, self.weeks + week);
+            let demand = row.demand(self.weeks + week);
             write(out, 4 * week, 4, demand);
         }
     }
@@ -227,9 +222,6 @@ pub fn roll(
     ensures output { out.new
         ≡ output_after (roll_answer plant.now plan.now k rates.now) out.old }
 {
-    let plant = PlantFile::read(plant)?;
-    let plan = PlanFile::read(plan, plant.shape)?;
-    let files = Candidate { plant, plan };
-    files.judge()?;
-    roll_passed(out, files, k, rates)
+    let passed = PassedPlan::read(plant, plan)?;
+    roll_passed(out, passed.files, k, rates)
 }

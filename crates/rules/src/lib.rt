@@ -35,8 +35,8 @@ pub struct Candidate<'plant, 'plan> {
     pub ghost same: { plan.shape ≡ plant.shape },
 }
 
-// What is there after a week with what has left is what was there before with what has come. It stays a function: rules 38 and 39 call it, and
-// it says the bound under which neither sum overflows.
+// Whether a mass balances over a week: what is there after it and what has left are what was there before and what has come. A function, since
+// rules 38 and 39 call it, and it says the bound under which neither sum overflows.
 fn balanced(after: Grams, left: Grams, before: Grams, come: Grams) -> bool
     requires { (after.0 < 2 ^ 40) × (left.0 < 2 ^ 40) × (before.0 < 2 ^ 40) × (come.0 < 2 ^ 40) }
     ensures { result ≡ eqb (after.0 + left.0) (before.0 + come.0) }
@@ -52,7 +52,8 @@ fn marked(mark: u64, n: u64) -> u64
     mark * n
 }
 
-// What a changeover takes where it is marked. It stays a function: no more than without the mark, which bounds the sum over all arcs.
+// What a changeover takes where it is marked. A function, since it says that no more is taken than without the mark, which bounds
+// the sum over all arcs.
 fn charged(mark: u64, one: Changeover) -> Changeover
     requires { mark < 2 }
     ensures { (result.minutes.0 ≡ mark * one.minutes.0) × (result.cents.0 ≡ mark * one.cents.0)
@@ -74,7 +75,7 @@ struct Market {
     backlog: Thousandths,
 }
 
-// Whether the profit is what is gained less what is lost. It stays a function, since it says the bound under which the difference is one of i64.
+// Whether the profit is what is gained less what is lost. A function, since it says the bound under which the difference is one of i64.
 fn is_profit(profit: Profit, gained: Thousandths, lost: Thousandths) -> bool
     requires { (gained.0 < 2 ^ 63) × (lost.0 < 2 ^ 63) }
     ensures { result ≡ same_integer profit.0 (pos gained.0 -ℤ pos lost.0) }

@@ -13,8 +13,8 @@ use contents::entry_in;
 use numbers::read;
 use std::fmt;
 
-// The kind of a plant file, and its N, C and W: the counts of products, customers and weeks. The kind is a byte, since a shape may have any byte:
-// an enum of the kinds would ask more of callers.
+// The kind of a plant file, and its N, C and W: the counts of products, customers and weeks. The kind is a byte, since a shape may have any
+// byte: an enum of the kinds would ask more of callers.
 #[derive(Clone, Copy, Debug, PartialEq, Eq)]
 pub struct Shape {
     pub kind: u8,
@@ -119,7 +119,7 @@ pub fn square_place(i: usize, l: u8, j: usize, m: u8, n: u8) -> usize
     i * area(m, n) + j
 }
 
-// Where a pair's weeks stand in a section.
+// Where a pair's weeks stand in a section. Bytes, shape and section are parameters: the row that is made of them is what travels on.
 pub fn pair_row(s: &[u8], f: Shape, section: usize, pair: usize) -> PairRow
     requires { Holds s.now section 4 (f.customers * f.products * f.weeks) × (pair < f.customers * f.products) }
     ensures { PairRowOf f s.now result × (result.section ≡ section) × (result.pair ≡ pair) }
@@ -152,7 +152,8 @@ pub fn customer_sum(s: &[u8], f: Shape, section: usize, product: usize, week: us
     sum
 }
 
-// Whether the numbers `from` to `from + m - 1` of section i, of k bytes each, are from lo to hi. Every number is tried: a loop that ends early
+// Whether the numbers `from` to `from + m - 1` of section i, of k bytes each, are from lo to hi. Section, width and count are parameters of each
+// test, since no two calls ask the same of a section. Every number is tried: a loop that ends early
 // is not compiled to tests of several numbers at a time.
 pub fn in_range(s: &[u8], i: usize, k: usize, from: usize, m: usize, lo: u64, hi: u64) -> bool
     requires { Holds s.now i k (from + m) }

@@ -4,13 +4,14 @@ use mathlib.Core.Path.{◌≡◌}
 use mathlib.Core.Bool.{false}
 use mathlib.Core.List.{List, [], ◌∷◌}
 use native.Mathlib.Omega.{arith}
-use lib.ListN.{length}
+use lib.ListN.{length, get_or}
 use borrow.Author.Tests.{ne_eqb}
 use Rattle.contents.specs.Contents.{offset, extent, sized}
 use Rattle.contents.specs.File.{start, Listable}
 use Rattle.sections.specs.Section.{Holds, Laid}
 use Rattle.sections.specs.declared.Shape.{Shape}
 use Rattle.sections.proofs.Rows.{width1, width4, laid_holds}
+use Rattle.slot_file.specs.Slots.{slot_at}
 use Rattle.slot_file.specs.Form.{slot_lengths}
 
 -- the contents have room for the sections of a slot file
@@ -18,6 +19,11 @@ pub slot_listable : (f : Shape) (total : ℕ) → total ≤ 65025 → f.weeks < 
     → Listable 41 (slot_lengths f total)
 unfolding start
 slot_listable f total l w v = record { numbers = omega arith; offsets = omega arith }
+
+-- the byte of a slot's product
+pub product_at_lem : (s : List ℕ) (j at : ℕ) → at ≡ offset s 1 + 3 * j → get_or s at 0 ≡ (slot_at s j).product
+unfolding slot_at
+product_at_lem s j at e = rw e (omega arith)
 
 -- the lengths, however their numbers came about
 module _ (f : Shape) (total : ℕ) {weeks slots sales : ℕ} (a : weeks ≡ f.weeks) (b : slots ≡ 3 * total)

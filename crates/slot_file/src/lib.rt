@@ -194,7 +194,7 @@ pub fn slot_form(s: &[u8], f: Shape) -> Result<Shape, Refusal>
 impl<'a> SlotFile<'a> {
     ghost use Rattle.slot_file.specs.Accepted.{slots_in_file};
 
-    // The file of these bytes, or the number of the first row that turns it down.
+    // By rows of its own: the file of these bytes, or the number of the first row that turns it down.
     pub fn read(bytes: &'a [u8], shape: Shape) -> Result<SlotFile<'a>, Refusal>
         ensures { MatchResult result (λ file. (file.bytes ≡ bytes.entry) × (file.shape ≡ shape) × (slot_form shape bytes.now ≡ Ok shape))
             (λ refusal. slot_form shape bytes.now ≡ Err refusal) }

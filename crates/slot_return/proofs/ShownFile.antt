@@ -20,6 +20,7 @@ use Rattle.contents.proofs.FileWritten.{file_length}
 use Rattle.sections.specs.Section.{cube}
 use Rattle.sections.specs.Layout.{slot_kind}
 use Rattle.sections.specs.declared.Shape.{Shape}
+use Rattle.plan_file.specs.Plan.{plan_of}
 use Rattle.plan_file.specs.Accepted.{plan_in}
 use Rattle.slot_file.specs.Form.{slot_lengths}
 use Rattle.slot_file.specs.File.{slot_bytes, slot_bodies}
@@ -51,6 +52,14 @@ join_stored body i at first out lent o a l b e =
     ap (put_mid at (length out - at) out) (e ∙ ap (store (mid_of at (length out - at) out) 0) b)
     ∙ (part_store out at (body i) l ∙ (ap (λ (s : List ℕ). store s at (body i)) o ∙ store_join i body first at a))
 
+-- the bytes of slot k of week w, of the plan file s
+abbrev pub slot_of : Shape → List ℕ → (w k : ℕ) → List ℕ
+slot_of f s w k = digits 1 (week_product f s w k) ++ digits 2 ((plan_of f s).line.minutes w (week_product f s w k))
+
+pub slot_bytes_lem : (f : Shape) (s : List ℕ) (w k product minutes : ℕ) → product ≡ week_product f s w k → minutes ≡ (plan_of f s).line.minutes w product
+    → digits 1 product ++ digits 2 minutes ≡ slot_of f s w k
+slot_bytes_lem f s w k product minutes p m = rw (m, p)
+
 module _ (x : ShownSlots) where
   abbrev f : Shape
   f = x.plan.shape
@@ -61,13 +70,9 @@ module _ (x : ShownSlots) where
   abbrev minutes_in : (w product : ℕ) → ℕ
   minutes_in = (plan_in x.plan).line.minutes
 
-  -- ---- the bytes of slot k of week w
+  -- the bytes of a slot
   abbrev pub slot_in : (w k : ℕ) → List ℕ
-  slot_in w k = digits 1 (product_in w k) ++ digits 2 (minutes_in w (product_in w k))
-
-  pub slot_is : (w k : ℕ) {product minutes : ℕ} → product ≡ product_in w k → minutes ≡ minutes_in w product
-      → digits 1 product ++ digits 2 minutes ≡ slot_in w k
-  slot_is w k p m = rw (m, p)
+  slot_in = slot_of f x.plan.bytes.now
 
   pub places_length : (w k : ℕ) → length (join_below k (slot_in w)) ≡ 3 * k
   places_length w k = even_length k 3 (slot_in w) (λ i. refl) ∙ mul_comm k 3

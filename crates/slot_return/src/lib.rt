@@ -9,7 +9,7 @@ ghost use Rattle.passed_plan.specs.Shown.{week_count, Ordered};
 use calls::FileWriter;
 use contents::BodyLengths;
 use numbers::write;
-use passed_plan::{judge_files, product_at, slot_total, week_count};
+use passed_plan::{PassedPlan, product_at, slot_total, week_count};
 use plan_file::PlanFile;
 use sections::Refusal;
 use slot_file::{COUNTS, SLOT_BYTES, SLOTS, slot_length, write_slot};
@@ -100,11 +100,8 @@ pub fn slot_return(plant: &[u8], plan: &[u8], out: &mut [u8]) -> Result<usize, R
     ensures result { result ≡ written_in (slot_answer plant.now plan.now) out.old }
     ensures output { out.new ≡ output_after (slot_answer plant.now plan.now) out.old }
 {
-    let passed = judge_files(plant, plan)?;
-    let plan = PlanFile {
-        bytes: plan,
-        shape: passed.shape,
-    };
+    let passed = PassedPlan::read(plant, plan)?;
+    let plan = passed.files.plan;
     let total = slot_total(plan);
     ShownSlots { plan, total }.write_where_room(out)
 }

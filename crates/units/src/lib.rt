@@ -13,7 +13,7 @@ pub struct Minutes(pub u64);
 #[derive(Clone, Copy, Debug, PartialEq, Eq, PartialOrd, Ord)]
 pub struct Grams(pub u64);
 
-// Mass of each product: an array of the most products, as 01-scope has the state, and with no heap.
+// Mass of each product: an array of the most products: there is no heap.
 #[derive(Clone, Copy)]
 pub struct ProductGrams(pub [u64; 16]);
 

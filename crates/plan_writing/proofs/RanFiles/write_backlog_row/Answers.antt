@@ -8,6 +8,7 @@ use Prim.Native.Nat.{ℕ, suc, ◌+◌, ◌*◌, ◌/◌, ◌%◌, ◌-◌, ◌�
 use Rattle.numbers.specs.Number.{digits, encode, store}
 use Rattle.numbers.proofs.Number.{store_more}
 use Rattle.plant_file.specs.Plant.{Plant}
+use Rattle.plant_file.specs.Accepted.{plant_in}
 use Rattle.slot_file.specs.Slots.{Slots, slots_of}
 use Rattle.machine.specs.State.{backlog_of}
 use Rattle.machine.specs.Run.{after}
@@ -79,10 +80,12 @@ module _ (c : After-sales) where
   below : week < files.slots.shape.weeks
   below = omega arith
 
-  demand_is : c.week_demand.result ≡ (ran_plant files).demand (c.args.pair / files.slots.shape.products) (c.args.pair % files.slots.shape.products) week
+  demand_is : c.demand.result ≡ (ran_plant files).demand (c.args.pair / files.slots.shape.products) (c.args.pair % files.slots.shape.products) week
   demand_is =
-      c.week_demand.ensures.0
-      ∙ ((λ u. let P = plant_is files u in P.demand (c.demand_row-demand.ensures.1 u / P.products) (c.demand_row-demand.ensures.1 u % P.products) week))
+      let r = c.demand_row-demand.ensures in
+      c.demand.ensures.0
+      ∙ (λ u. let P = plant_in (r.0 u) in P.demand (r.1 u / P.products) (r.1 u % P.products) week)
+      ∙ (λ u. let P = plant_is files u in P.demand (c.args.pair / P.products) (c.args.pair % P.products) week)
 
   sales_is : c.sales.result ≡ (ran_slots files).sales (c.args.pair / files.slots.shape.products) (c.args.pair % files.slots.shape.products) week
   sales_is =
@@ -90,10 +93,10 @@ module _ (c : After-sales) where
       c.sales.ensures.0
       ∙ (λ u. (slots_of (r.0 u).shape (r.0 u).bytes.now).sales (r.1 u / (r.0 u).shape.products) (r.1 u % (r.0 u).shape.products) week)
 
-  next_is : c.loop-week.backlog + c.week_demand.result - c.sales.result ≡ owed files c.args.pair c.requires.0 (week + 1)
+  next_is : c.loop-week.backlog + c.demand.result - c.sales.result ≡ owed files c.args.pair c.requires.0 (week + 1)
   next_is = omega (arith, c.loop-week.invariant.1, demand_is, sales_is, next files c.args.pair c.requires.0 week below)
 
-  enough : c.sales.result ≤ c.loop-week.backlog + c.week_demand.result
+  enough : c.sales.result ≤ c.loop-week.backlog + c.demand.result
   enough = omega (arith, c.loop-week.invariant.1, demand_is, sales_is, covers files c.args.pair c.requires.0 week below)
 
 pub loop-week-init : goal.loop-week-init
@@ -113,6 +116,6 @@ loop-week-preserved c =
     let next = next_is (goal.at.loop-week-preserved c).After-sales in (
       search rules,
       next,
-      omega (arith, c.week_demand.ensures.1),
+      omega (arith, c.demand.ensures.1),
       c.write.ensures ∙ more a.self a.pair c.requires.0 a.out.now b.out b.week _ b.invariant.3 next,
     )

@@ -2,7 +2,7 @@
 -- Assumes nothing.
 use borrow.Author.Rules.{rules}
 use native.Mathlib.Omega.{arith}
-use mathlib.Core.Path.{◌≡◌, refl, sym, ap, ◌∙◌}
+use mathlib.Core.Path.{◌≡◌, refl, ap, ◌∙◌}
 use mathlib.Core.List.{List}
 use Prim.Native.Nat.{ℕ, suc, ◌+◌, ◌*◌, ◌-◌, ◌≤◌, ◌<◌}
 use lib.ListN.{length, get_or, length-take, length-drop}
@@ -21,11 +21,10 @@ use Rattle.machine.specs.Run.{opening, after}
 use Rattle.model.proofs.States.{opening_lengths}
 use Rattle.model.specs.RunTables.{run_tables}
 use Rattle.plan_writing.specs.declared.RanFiles.{RanFiles}
-use Rattle.plan_writing.specs.Ran.{RunWeek}
 use Rattle.plan_writing.specs.Bodies.{Shows, made_in, sold_in}
 use Rattle.plan_writing.specs.Files.{ran_plant, ran_slots, tables_in}
 use Rattle.plan_writing.proofs.RunWeeks.{few_products, inventory_next, inventory_covers, inventory_limit}
-use Rattle.plan_writing.proofs.Files.{plant_is, products_same, row_runs}
+use Rattle.plan_writing.proofs.Files.{plant_is}
 use Rattle.plan_writing.proofs.RanFiles.write_inventory.Goals as goal
 use Rattle.plan_writing.proofs.RanFiles.write_inventory.Goals.{In-loop-week}
 
@@ -67,9 +66,6 @@ module _ (e : In-loop-week) where
   below : e.loop-week.week < e.args.self.slots.shape.weeks
   below = omega arith
 
-  row_is : RunWeek e.loop-week.row
-  row_is = row_runs e.args.self e.loop-week.row e.loop-week.invariant.2 (omega (arith, e.loop-week.invariant.3, below))
-
   few : e.args.self.slots.shape.products ≤ 16
   few = let p = e.args.self in few_products p.slots.shape p.plant.bytes.now p.ran.plant_good
 
@@ -93,14 +89,17 @@ loop-week-init c =
       λ i l. ap (λ (s : State). get_or s.inventory i 0) opens,
     )
 
+pub invariant_of-add_production : goal.invariant_of-add_production
+invariant_of-add_production c =
+    let e = (goal.at.invariant_of-add_production c).In-loop-week in
+    record { same = c.loop-week.invariant.2; known = omega (arith, c.loop-week.invariant.3, below e) }
+
 pub add_production-requires : goal.add_production-requires
 add_production-requires c =
     let e = (goal.at.add_production-requires c).In-loop-week in
     let p = c.args.self in
     let b = c.loop-week in
     let products : b.row.file.shape.products ≡ p.slots.shape.products = ap (λ (x : SlotFile). x.shape.products) b.invariant.2 in (
-      row_is e,
-      products_same p ∙ sym products,
       omega (arith, products, few e, b.invariant.4),
       λ i l. let k : i < p.slots.shape.products = omega (arith, l, products) in
           omega (arith, b.invariant.5 i k, inventory_limit p.slots.shape p.plant.bytes.now p.slots.bytes.now p.ran i k b.week (below e)),

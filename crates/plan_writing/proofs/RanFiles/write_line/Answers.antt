@@ -22,12 +22,11 @@ use Rattle.costs.specs.Mounted.{opening_mounted}
 use Rattle.machine.specs.Run.{opening}
 use Rattle.model.specs.RunTables.{last_of, mounted_at}
 use Rattle.model.proofs.RunStates.{after_mounted}
-use Rattle.plan_writing.specs.Ran.{RunWeek, Cleared}
+use Rattle.plan_writing.specs.Ran.{Cleared}
 use Rattle.plan_writing.specs.Bodies.{section_of, row_in}
 use Rattle.plan_writing.specs.declared.RanFiles.{RanFiles}
 use Rattle.plan_writing.specs.Files.{ran_plant, ran_slots, tables_in}
-use Rattle.plan_writing.proofs.RunWeeks.{few_products}
-use Rattle.plan_writing.proofs.Files.{plant_is, row_runs}
+use Rattle.plan_writing.proofs.Files.{plant_is}
 use Rattle.plan_writing.proofs.Zeros.{zeros_stored, cleared_as, over_zeros, rest_cleared}
 use Rattle.plan_writing.proofs.Bodies.{body_is, body_length, week_rows}
 use Rattle.plan_writing.proofs.RanFiles.write_line.Goals as goal
@@ -89,9 +88,6 @@ module _ (c : In-loop-week) where
   below : c.loop-week.week < f.weeks
   below = omega (arith, c.from-weeks.ensures)
 
-  row_is : RunWeek c.loop-week.row
-  row_is = row_runs files c.loop-week.row c.loop-week.invariant.2 (omega (arith, c.loop-week.invariant.3, below))
-
   size_is : size ≡ width * columns
   size_is = ap (λ (n : ℕ). width * n) (columns_is f c.args.place c.layout-x.ensures.0)
 
@@ -121,6 +117,11 @@ loop-week-init c = (
   c.opening_mounted-mounted.ensures.0 ∙ ap (λ (p : Plant). opening_mounted p.line) (plant_is c.args.self),
 )
 
+pub invariant_of-ran : goal.invariant_of-ran
+invariant_of-ran c =
+    let e = (goal.at.invariant_of-ran c).In-loop-week in
+    record { same = c.loop-week.invariant.2; known = omega (arith, c.loop-week.invariant.3, below e) }
+
 pub slice_bounds-write_row-count : goal.slice_bounds-write_row-count
 slice_bounds-write_row-count c = omega (arith, row_fits (goal.at.slice_bounds-write_row-count c).In-loop-week)
 
@@ -133,8 +134,6 @@ write_row-requires c =
     let a = c.args in
     let b = c.loop-week in
     let row = row_in (f e) (tables_in a.self) a.place in (
-      row_is e,
-      b.invariant.2,
       b.invariant.4 ∙ ap (mounted_at (ran_plant a.self) (ran_slots a.self)) (sym b.invariant.3),
       c.requires.0,
       width_is (f e) a.place c.layout-x.ensures.0,
@@ -142,13 +141,6 @@ write_row-requires c =
           (join_below b.week (λ q. encode (width e) (columns e) (row q))) b.out (zeros e) (next_fits e)
           (rows_length (width e) (columns e) b.week row
           ∙ (mul_comm b.week (width e * columns e) ∙ ap (λ (n : ℕ). n * b.week) (sym (size_is e)))) b.invariant.1,
-    )
-
-pub mounted_after-mounted-requires : goal.mounted_after-mounted-requires
-mounted_after-mounted-requires c =
-    let files = c.args.self in (
-      row_is (goal.at.mounted_after-mounted-requires c).In-loop-week,
-      rw c.loop-week.invariant.2 (few_products files.slots.shape files.plant.bytes.now files.ran.plant_good),
     )
 
 pub loop-week-preserved : goal.loop-week-preserved

@@ -4,7 +4,7 @@ use native.Mathlib.Omega.{arith}
 use mathlib.Core.Path.{◌≡◌, ◌∙◌}
 use Prim.Native.Nat.{◌*◌}
 use Rattle.slot_return.specs.Bodies.{count_in}
-use Rattle.slot_return.proofs.ShownFile.{slot_in, slot_is, places_length, week_bytes, join_stored}
+use Rattle.slot_return.proofs.ShownFile.{slot_in, slot_bytes_lem, places_length, week_bytes, join_stored}
 use Rattle.slot_return.proofs.ShownSlots.write_week.Goals as goal
 
 pub loop-k-preserved : goal.loop-k-preserved
@@ -14,7 +14,7 @@ loop-k-preserved c =
     let w = c.args.week in (
       search rules,
       join_stored (slot_in x w) b.k (3 * b.k) c.args.out.now b.out _ b.invariant.1 (places_length x w b.k) (omega arith)
-          (slot_is x w b.k c.product_at-product.ensures c.minutes-minutes.ensures.0) c.write_slot.ensures,
+          (slot_bytes_lem x.plan.shape x.plan.bytes.now w b.k _ _ c.product_at-product.ensures c.minutes-minutes.ensures.0) c.write_slot.ensures,
     )
 
 pub returns : goal.returns

@@ -28,6 +28,7 @@ use Rattle.model.proofs.PlanRuns.{plan_meets}
 use Rattle.model.proofs.GivenPlans.{given_mounted}
 use Rattle.model.proofs.Agreement.{passing_runs, fits_binary}
 use Rattle.passed_plan.specs.declared.Pass.{Pass}
+use Rattle.passed_plan.specs.declared.PassedPlan.{PassedPlan}
 use Rattle.passed_plan.specs.Judgement.{Judgement, after_rows, after_rules, plan_judgement, judgement_of}
 use Rattle.passed_plan.specs.Shown.{week_count, week_product, week_mounted, shown_in, Ordered}
 
@@ -66,7 +67,7 @@ module _ (plant plan : List ℕ) where
   passing_judged f q h = rw (h.plant_good, h.plan_good, h.passes)
 
 -- ---- what it has
-pub record PassedPlan (f : Shape) (plant plan : List ℕ) : Type 0 where
+pub record PassedFacts (f : Shape) (plant plan : List ℕ) : Type 0 where
   pub ranges : PlantRanges (plant_of f plant)
   pub binary : Binary (plant_of f plant) (plan_of f plan)
   pub ordered : Ordered f plan
@@ -75,7 +76,7 @@ pub record PassedPlan (f : Shape) (plant plan : List ℕ) : Type 0 where
   -- and has mounted before each week what the plan says
   pub mounted : (w : ℕ) → w < f.weeks → week_mounted f plant plan w ≡ mounted_at (plant_of f plant) (shown_in f plan) w
 
-pub passed_plan : (f : Shape) (plant plan : List ℕ) (q : Profit) → Bytes plan → Passing f plant plan q → PassedPlan f plant plan
+pub passed_plan : (f : Shape) (plant plan : List ℕ) (q : Profit) → Bytes plan → Passing f plant plan q → PassedFacts f plant plan
 unfolding week_count week_product week_mounted week_of
 passed_plan f plant plan q bytes h =
     let P = plant_of f plant in
@@ -94,3 +95,12 @@ passed_plan f plant plan q bytes h =
       given = g;
       mounted = given_mounted R g;
     }
+
+-- of files that pass
+pub files_passing : (x : PassedPlan) → let y = x.files in Passing y.plant.shape y.plant.bytes.now y.plan.bytes.now x.profit
+files_passing x = judged_passing x.files.plant.bytes.now x.files.plan.bytes.now _ x.passes
+
+pub files_ordered : (x : PassedPlan) → Ordered x.files.plan.shape x.files.plan.bytes.now
+files_ordered x =
+    let y = x.files in
+    rw y.same (passed_plan y.plant.shape y.plant.bytes.now y.plan.bytes.now x.profit y.plan.octets (files_passing x)).ordered

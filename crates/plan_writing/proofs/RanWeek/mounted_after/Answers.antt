@@ -1,4 +1,4 @@
--- `plan_writing::mounted_after` meets its contract. Assumes nothing.
+-- `plan_writing::RanWeek::mounted_after` meets its contract. Assumes nothing.
 use native.Mathlib.Omega.{arith}
 use mathlib.Core.Path.{◌≡◌, refl, ap, ◌∙◌}
 use mathlib.Core.List.{List, [], ◌∷◌}
@@ -11,7 +11,8 @@ use Rattle.std.specs.Prelude.{Some}
 use Rattle.costs.specs.Mounted.{Mounted}
 use Rattle.model.specs.RunTables.{last_of}
 use Rattle.plan_writing.proofs.WeekRows.{order_size, product_at_lem}
-use Rattle.plan_writing.proofs.mounted_after.Goals as goal
+use Rattle.plan_writing.proofs.Files.{runs}
+use Rattle.plan_writing.proofs.RanWeek.mounted_after.Goals as goal
 
 -- after some products the last is mounted
 last_mounted : (m : Mounted) (ps : List ℕ) (n : ℕ) → length ps ≡ suc n → Some (order_at ps n) ≡ last_of m ps
@@ -26,14 +27,14 @@ none_mounted : (m : Mounted) (ps : List ℕ) → length ps ≡ 0 → m ≡ last_
 none_mounted m [] e = refl
 none_mounted m (p ∷ ps) e = absurd (omega arith)
 
-pub returns-then-row-eq0 : goal.returns-then-row-eq0
-returns-then-row-eq0 c =
+pub returns-then-self-eq0 : goal.returns-then-self-eq0
+returns-then-self-eq0 c =
     let a = c.args in
-    none_mounted a.mounted (order_of_slots (slots_in_week a.row)) (order_size c.requires.0 ∙ c.if-row-eq0.true)
+    none_mounted a.mounted (order_of_slots (slots_in_week a.self.row)) (order_size (runs c.args.self) ∙ c.if-self-eq0.true)
 
 pub returns : goal.returns
 returns c =
     let a = c.args in
-    let ps = order_of_slots (slots_in_week a.row) in
-    ap Some (product_at_lem c.requires.0 (a.row.count - 1) c.product.ensures.0)
-    ∙ last_mounted a.mounted ps (a.row.count - 1) (omega (arith, order_size c.requires.0, c.if-row-eq0.false))
+    let ps = order_of_slots (slots_in_week a.self.row) in
+    ap Some (product_at_lem (runs c.args.self) (a.self.row.count - 1) c.product.ensures.0)
+    ∙ last_mounted a.mounted ps (a.self.row.count - 1) (omega (arith, order_size (runs c.args.self), c.if-self-eq0.false))

@@ -97,8 +97,8 @@ fn has_numbers(s: &[u8], kind: u64, first: u64, count: usize) -> bool
     u64::from(s[0]) == kind && usize::from(s[1]) == count && numbered(s, first, count)
 }
 
-// Rows 1, 11 and 21. The kind is the number that stands in the file. It, the first section and the count are parameters here: the lengths, with
-// which `BodyLengths` has them, are not known yet.
+// Rows 1, 11 and 21. The kind is the number that stands in the file. It, the first section and the count are parameters: a plant's or a slot
+// file's lengths, with which `BodyLengths` has them, are not known yet.
 #[tactic(auto, unfolding(crate::specs::Contents::headed))]
 pub fn is_headed(s: &[u8], kind: u64, first: u64, count: usize) -> bool
     requires { (count < 256) × (first < 256) }
@@ -107,7 +107,7 @@ pub fn is_headed(s: &[u8], kind: u64, first: u64, count: usize) -> bool
     2 + 9 * count <= s.len() && has_numbers(s, kind, first, count)
 }
 
-// Rows 2, 12 and 22.
+// Rows 2, 12 and 22, likewise before the lengths are known.
 pub fn is_placed(s: &[u8], count: usize) -> bool
     requires { (2 + 9 * count ≤ length s.now) × (count < 256) }
     ensures { result ≡ placed s.now count }
@@ -131,7 +131,7 @@ pub fn is_sized(s: &[u8], lengths: &[usize]) -> bool
     (0..lengths.len()).all(|i| entry_in(s, i).length == lengths[i])
 }
 
-// Number j of those of k bytes that section i holds.
+// Number j of those of k bytes that section i holds. Bytes, section and width are parameters, since each accessor has its own.
 #[tactic(auto, unfolding(crate::specs::Contents::cell))]
 pub fn cell_in(s: &[u8], i: usize, k: usize, j: usize) -> u64
     requires { Inside s.now i k j }

@@ -88,7 +88,7 @@ fn lengths_of(f: Shape) -> [usize; 12]
     lengths
 }
 
-// The lengths of the bodies of a plan file.
+// The lengths of the bodies of a plan file, of which each kind of file has its own.
 pub fn body_lengths(f: Shape) -> BodyLengths
     ensures { LengthsOf plan_kind (plan_lengths f) result }
 {

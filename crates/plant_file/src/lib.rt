@@ -196,7 +196,7 @@ fn lengths_of(f: Shape) -> [usize; 12]
     ]
 }
 
-// The lengths of the bodies of a plant file.
+// The lengths of the bodies of a plant file, of which each kind of file has its own.
 pub fn body_lengths(f: Shape) -> BodyLengths
     ensures { LengthsOf (file_kind f.kind) (plant_lengths f) result }
 {

@@ -18,7 +18,7 @@ impl<'a> RateList<'a> {
     ghost use Rattle.numbers.specs.Number.{encode, store};
     ghost use Rattle.plant_file.specs.Rates.{listed_rate};
 
-    // The list of these bytes, or the number of its refusal.
+    // By a test of its own: the list of these bytes, or the number of its refusal.
     #[tactic(auto, using(crate::proofs::GoodRates::rates_decided))]
     pub fn read(bytes: &'a [u8], shape: Shape) -> Result<RateList<'a>, Refusal>
         ensures { MatchResult result

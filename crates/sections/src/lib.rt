@@ -153,7 +153,7 @@ pub fn customer_sum(s: &[u8], f: Shape, section: usize, product: usize, week: us
 }
 
 // Whether the numbers `from` to `from + m - 1` of section i, of k bytes each, are from lo to hi. Section, width and count are parameters of each
-// test, since no two calls ask the same of a section. Every number is tried: a loop that ends early
+// test here, since few calls ask the same of a section. Every number is tried: a loop that ends early
 // is not compiled to tests of several numbers at a time.
 pub fn in_range(s: &[u8], i: usize, k: usize, from: usize, m: usize, lo: u64, hi: u64) -> bool
     requires { Holds s.now i k (from + m) }

@@ -92,7 +92,7 @@ pub struct PairSales<'a> {
     pub ghost begins: { at ≡ offset file.bytes.now 2 + 4 * (pair * file.shape.weeks) },
 }
 
-// The lengths of the bodies of a slot file with `total` slots.
+// The lengths of the bodies of a slot file with `total` slots, of which each kind of file has its own.
 pub fn body_lengths(f: Shape, total: usize) -> BodyLengths
     requires { total ≤ 65025 }
     ensures { LengthsOf slot_kind (slot_lengths f total) result }
@@ -171,7 +171,7 @@ fn is_in_range(s: &[u8], f: Shape) -> bool
     in_range(s, COUNTS, 1, 0, weeks, 0, n) && has_products(s, total, n)
 }
 
-// Rows 21 to 24: good for a plant of shape f, or the number of the first row that turns the file down.
+// Rows 21 to 24, with refusals and a last row of their own: good for a plant of shape f, or the number of the first row that turns the file down.
 #[tactic(auto, using(contents::proofs::Facts::headed_facts), unfolding(crate::specs::Form::slot_form))]
 pub fn slot_form(s: &[u8], f: Shape) -> Result<Shape, Refusal>
     ensures { result ≡ slot_form f s.now }

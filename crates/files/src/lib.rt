@@ -1,7 +1,8 @@
 // Files as the programs read and write them, and numbers as their arguments name them.
 #![tactic(auto)]
 
-ghost use Rattle.std.specs.Prelude.{length, take, ◌≡◌, ◌≤◌};
+ghost use Rattle.std.specs.Prelude.{[], length, take, ◌≡◌, ◌≤◌};
+ghost use Rattle.files.specs.Counts.{IsPrefixLen};
 ghost use Rattle.files.specs.Within.{Within};
 ghost use Rattle.files.specs.Numerals.{with_digit, numeral_of};
 
@@ -26,6 +27,32 @@ pub type Argument = Bytes<4096>;
 pub type FileBytes = Bytes<65536>;
 
 impl<const N: usize> Bytes<N> {
+    // None, with room for N. Made where it stands, since a copy of the room costs as much as reading a file does.
+    #[inline(always)]
+    pub fn empty() -> Bytes<N>
+        ensures { take result.count result.items ≡ [] }
+    {
+        Bytes {
+            items: [0; N],
+            count: 0,
+        }
+    }
+
+    // Takes argument i, in the place of what was read before.
+    pub fn read_argument(&mut self, rt: &impl Env, i: usize) {
+        self.count = argument(rt, i, &mut self.items);
+    }
+
+    // Takes the start of a file, in the place of what was read before.
+    pub fn read_file(&mut self, rt: &impl Files, path: &[u8]) {
+        self.count = read_file(rt, path, &mut self.items);
+    }
+
+    // The same of the file that argument i names.
+    pub fn read_named(&mut self, rt: &(impl Env + Files), i: usize) {
+        self.count = read_named(rt, i, &mut self.items);
+    }
+
     // The bytes alone.
     pub fn as_slice(&self) -> &[u8]
         ensures { result.now ≡ take self.now.count self.now.items }
@@ -52,50 +79,54 @@ pub fn argument_count(rt: &impl Env) -> usize {
     usize::MAX
 }
 
-// Argument i. One that is missing or longer than N bytes counts as empty.
-pub fn argument<const N: usize>(rt: &impl Env, i: usize) -> Bytes<N> {
-    let mut items = [0; N];
-    let count = rt.arg(i, &mut items).unwrap_or(0);
-    Bytes { items, count }
+// Puts argument i at the start of buf, and answers how many bytes. One that is missing or longer than buf counts as empty.
+pub fn argument(rt: &impl Env, i: usize, buf: &mut [u8]) -> usize
+    ensures { IsPrefixLen result buf.new }
+{
+    rt.arg(i, buf).unwrap_or(0)
 }
 
 // Reads until buf is full, the input ends or a read fails, and answers how many bytes it put at the start of buf.
 fn read_full(file: &mut impl Read, buf: &mut [u8]) -> usize
-    ensures { result ≤ length buf.new }
+    ensures { IsPrefixLen result buf.new }
 {
     let mut done = 0;
     // Each read but the last one gives a byte at least, so that as many as buf has bytes are enough.
     for _ in 0..buf.len() {
         let n = file.read(&mut buf[done..]).unwrap_or(0);
-        if n == 0 {
+        done += n;
+        if n == 0 || done == buf.len() {
             break;
         }
-        done += n;
     }
     done
 }
 
-// The start of a file, N bytes at most. One that cannot be read counts as empty.
-pub fn read_file<const N: usize>(rt: &impl Files, path: &[u8]) -> Bytes<N> {
-    let mut items = [0; N];
-    let mut count = 0;
+// Puts the start of a file at the start of buf, and answers how many bytes. One that cannot be read counts as empty.
+pub fn read_file(rt: &impl Files, path: &[u8], buf: &mut [u8]) -> usize
+    ensures { IsPrefixLen result buf.new }
+{
     if let Ok(path) = str::from_utf8(path)
         && let Ok(mut file) = fs::open(rt, path)
     {
-        count = read_full(&mut file, &mut items);
+        return read_full(&mut file, buf);
     }
-    Bytes { items, count }
+    0
 }
 
-// The start of the file that argument i names, N bytes at most.
-pub fn read_named<const N: usize>(rt: &(impl Env + Files), i: usize) -> Bytes<N> {
-    let name: Argument = argument(rt, i);
-    read_file(rt, name.as_slice())
+// The same of the file that argument i names.
+pub fn read_named(rt: &(impl Env + Files), i: usize, buf: &mut [u8]) -> usize
+    ensures { IsPrefixLen result buf.new }
+{
+    let mut name = Argument::empty();
+    name.read_argument(rt, i);
+    read_file(rt, name.as_slice(), buf)
 }
 
 // Puts the bytes into the file that argument i names, in the place of what it held, and answers whether all are written.
 pub fn write_named(rt: &(impl Env + Files), i: usize, bytes: &[u8]) -> bool {
-    let name: Argument = argument(rt, i);
+    let mut name = Argument::empty();
+    name.read_argument(rt, i);
     let Ok(path) = str::from_utf8(name.as_slice()) else {
         return false;
     };
@@ -132,7 +163,8 @@ fn numeral_of(text: &[u8]) -> Option<u64>
 
 // The number that argument i names.
 pub fn named_number(rt: &impl Env, i: usize) -> Option<u64> {
-    let name: Argument = argument(rt, i);
+    let mut name = Argument::empty();
+    name.read_argument(rt, i);
     numeral_of(name.as_slice())
 }
 
@@ -175,8 +207,10 @@ pub fn run_call<F: FnOnce(&[u8], &[u8], &mut [u8]) -> Result<usize, Refusal>>(
         let _ = eprintln!(rt; "{usage}");
         return;
     }
-    let first: FileBytes = read_named(rt, 1);
-    let second: FileBytes = read_named(rt, 2);
+    let mut first = FileBytes::empty();
+    first.read_named(rt, 1);
+    let mut second = FileBytes::empty();
+    second.read_named(rt, 2);
     let mut out = large_buffer();
     let written = call(first.as_slice(), second.as_slice(), &mut out);
     deliver(rt, written, &out, 3);

@@ -6,7 +6,7 @@ ghost use Rattle.std.specs.Prelude.{◌≡◌};
 ghost use Rattle.sections.specs.Rows.{number_of};
 ghost use Rattle.formcheck.specs.Answer.{answer_of};
 
-use files::{Argument, FileBytes, argument, argument_count, read_file};
+use files::{Argument, FileBytes, argument_count};
 use plan_file::plan_form;
 use plant_file::plant_form;
 use sections::{Refusal, Shape};
@@ -50,9 +50,11 @@ fn answer(kind: Kind, file: &[u8], plant: Shape) -> u32
 }
 
 fn report(rt: &(impl Env + Files + Print), i: usize, plant: Shape) {
-    let argument: Argument = argument(rt, i);
+    let mut argument = Argument::empty();
+    argument.read_argument(rt, i);
     let name = argument.as_slice();
-    let file: FileBytes = read_file(rt, name);
+    let mut file = FileBytes::empty();
+    file.read_file(rt, name);
     let number = answer(kind_of(name), file.as_slice(), plant);
     let _ = rt.write_all(name);
     let _ = println!(rt; " {number}");
@@ -65,7 +67,8 @@ fn report_all(rt: &(impl Env + Files + Print), plant: Shape) {
 }
 
 fn main(rt: HostRuntime) {
-    let file: FileBytes = read_file(&rt, b"plant.bin");
+    let mut file = FileBytes::empty();
+    file.read_file(&rt, b"plant.bin");
     match plant_form(file.as_slice()) {
         Ok(plant) => report_all(&rt, plant),
         Err(_) => {

@@ -2,7 +2,7 @@
 // The two arguments name the plant file and the plan file; with none they are plant.bin and plan.bin.
 #![tactic(auto)]
 
-use files::{FileBytes, argument_count, read_file, read_named};
+use files::{FileBytes, argument_count};
 use report::report_text;
 
 fn print_report(rt: &impl Print, plant: &FileBytes, plan: &FileBytes) {
@@ -12,15 +12,21 @@ fn print_report(rt: &impl Print, plant: &FileBytes, plan: &FileBytes) {
 }
 
 fn main(rt: HostRuntime) {
+    let mut plant = FileBytes::empty();
+    let mut plan = FileBytes::empty();
     match argument_count(&rt) {
-        1 => print_report(
-            &rt,
-            &read_file(&rt, b"plant.bin"),
-            &read_file(&rt, b"plan.bin"),
-        ),
-        3 => print_report(&rt, &read_named(&rt, 1), &read_named(&rt, 2)),
+        1 => {
+            plant.read_file(&rt, b"plant.bin");
+            plan.read_file(&rt, b"plan.bin");
+        }
+        3 => {
+            plant.read_named(&rt, 1);
+            plan.read_named(&rt, 2);
+        }
         _ => {
             let _ = eprintln!(rt; "usage: planreport [PLANT PLAN]");
+            return;
         }
     }
+    print_report(&rt, &plant, &plan);
 }

@@ -2,7 +2,7 @@
 // stop it is the state from before the step.
 #![tactic(auto)]
 
-ghost use Rattle.std.specs.Prelude.{◌≡◌, ◌^◌, ◌<◌, replicate};
+ghost use Rattle.std.specs.Prelude.{◌≡◌, ◌-◌, ◌^◌, ◌≤◌, ◌<◌, replicate};
 ghost use Rattle.plant_file.specs.Accepted.{plant_in};
 ghost use Rattle.slot_file.specs.Row.{slot_of, slots_in};
 ghost use Rattle.machine.specs.Machine.{week_begin, clock_after, slot_stops, slot_done, slot_step, week_end};
@@ -81,6 +81,14 @@ pub struct BacklogUpdate {
 pub struct InventoryUpdate {
     pub inventory: ProductGrams,
     pub charge: Thousandths,
+}
+
+// What is left of a mass once another is taken from it.
+fn less(mass: Grams, taken: Grams) -> Grams
+    requires { taken.0 ≤ mass.0 }
+    ensures { result.0 ≡ mass.0 - taken.0 }
+{
+    Grams(mass.0 - taken.0)
 }
 
 impl State {
@@ -195,15 +203,15 @@ impl State {
         let mut revenue = 0;
         let mut cost = 0;
         for pair in 0..area(shape.customers, shape.products) {
-            let owed = u64::from(backlog[pair]) + input.plant.pair_demand(pair, week);
-            let sold = input.slots.pair_sales(pair, week);
+            let owed = Grams(u64::from(backlog[pair]) + input.plant.pair_demand(pair, week));
+            let sold = Grams(input.slots.pair_sales(pair, week));
             if owed < sold {
                 return Err(Refusal::Backlog);
             }
-            let left = owed - sold;
-            backlog[pair] = left as u32;
-            let bought = charge(UnitCost(input.plant.pair_price(pair)), Grams(sold));
-            let late = charge(UnitCost(input.plant.pair_backlog_cost(pair)), Grams(left));
+            let left = less(owed, sold);
+            backlog[pair] = left.0 as u32;
+            let bought = charge(UnitCost(input.plant.pair_price(pair)), sold);
+            let late = charge(UnitCost(input.plant.pair_backlog_cost(pair)), left);
             revenue += bought.0;
             cost += late.0;
         }
@@ -225,16 +233,17 @@ impl State {
         let mut kept = true;
         let mut cost = 0;
         for product in 0..usize::from(plant.shape.products) {
-            let sold = input.slots.sold(week, product);
-            let before = inventory[product];
+            let sold = Grams(input.slots.sold(week, product));
+            let before = Grams(inventory[product]);
             if before < sold {
                 return Err(Refusal::Inventory);
             }
-            let left = before - sold;
-            kept = kept
-                && (plant.least_storage(product)..=plant.greatest_storage(product)).contains(&left);
-            inventory[product] = left;
-            let held = charge(UnitCost(plant.inventory_cost(product)), Grams(left));
+            let left = less(before, sold);
+            let least = Grams(plant.least_storage(product));
+            let most = Grams(plant.greatest_storage(product));
+            kept &= least <= left && left <= most;
+            inventory[product] = left.0;
+            let held = charge(UnitCost(plant.inventory_cost(product)), left);
             cost += held.0;
         }
         if !kept {

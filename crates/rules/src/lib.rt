@@ -219,8 +219,10 @@ impl Candidate<'_, '_> {
         requires { (week < self.plant.shape.weeks) × (product < self.plant.shape.products) }
         ensures { result ≡ storage_at (plant_in self.entry.plant) (plan_in self.entry.plan) week product }
     {
-        let mass = self.plan.inventory(week, product);
-        (self.plant.least_storage(product)..=self.plant.greatest_storage(product)).contains(&mass)
+        let least = Grams(self.plant.least_storage(product));
+        let most = Grams(self.plant.greatest_storage(product));
+        let mass = Grams(self.plan.inventory(week, product));
+        least <= mass && mass <= most
     }
 
     // 40 in a week.

@@ -17,9 +17,9 @@ use Rattle.machine.proofs.Plants.{few}
 use Rattle.machine.proofs.ProductTables.{inventory_at, in_stock_at, in_stock_all, inventory_all, kept_all, charge_all}
 use Rattle.machine.proofs.Stores.{cell_next, cell_stored}
 use Rattle.machine.proofs.State.inventory_update.Goals as goal
-use Rattle.machine.proofs.State.inventory_update.Goals.{After-sold-sold, then-kept, else-kept}
+use Rattle.machine.proofs.State.inventory_update.Goals.{After-sold}
 
-module _ (c : After-sold-sold) where
+module _ (c : After-sold) where
   -- the product is one of the plant's, and its inventory is as it was
   known : c.loop-product.product < c.args.input.plant.shape.products
   known = omega (arith, c.from-product-end.ensures)
@@ -28,11 +28,11 @@ module _ (c : After-sold-sold) where
   same = cell_next _ _ _ _ c.loop-product.invariant.0
 
   -- what is sold of it
-  sold : c.sold-sold.result ≡ sold_of (plant_in c.args.input.plant) (week_in c.args.input c.args.week) c.loop-product.product
-  sold = rw c.args.input.same at c.sold-sold.ensures.0
+  sold : c.sold.result ≡ sold_of (plant_in c.args.input.plant) (week_in c.args.input c.args.week) c.loop-product.product
+  sold = rw c.args.input.same at c.sold.ensures.0
 
   -- what is left
-  left : get_or c.loop-product.inventory c.loop-product.product 0 - c.sold-sold.result
+  left : get_or c.loop-product.inventory c.loop-product.product 0 - c.sold.result
       ≡ inventory_at (plant_in c.args.input.plant) (week_in c.args.input c.args.week) c.loop-product.product
       (get_or c.args.self.inventory c.loop-product.product 0)
   left = rw (same, sold)
@@ -49,35 +49,31 @@ bounds-inventory-product-in-loop-product c = omega (arith, (few c.args.input.pla
 
 pub charge-held-requires : goal.charge-held-requires
 charge-held-requires c =
-    (search rules, omega (arith, before_most (goal.at.charge-held-requires c).After-sold-sold))
+    (search rules, omega (arith, before_most (goal.at.charge-held-requires c).After-sold))
 
 pub overflow_add-cost : goal.overflow_add-cost
 overflow_add-cost c =
-    let at = (goal.at.overflow_add-cost c).After-sold-sold in
+    let at = (goal.at.overflow_add-cost c).After-sold in
     omega (arith, c.charge-held.ensures.1, before_most at, c.loop-product.invariant.4, known at, (few c.args.input.plant).products)
 
 pub loop-product-preserved : goal.loop-product-preserved
 loop-product-preserved c =
     let b = c.loop-product in
-    let at = (goal.at.loop-product-preserved c).After-sold-sold in (
-      cell_stored _ _ _ _ b.invariant.0 _ (left at),
+    let at = (goal.at.loop-product-preserved c).After-sold in (
+      cell_stored _ _ _ _ b.invariant.0 _ (c.less-left.ensures ∙ left at),
       rw (add-one, b.invariant.1, ← (sold at), ← (same at)) (search (rules, tests)),
-      rw (add-one, ← b.invariant.2, ← (left at))
-          (elim c.if-kept.branch [
-            | then-kept w ↦ rw (w.kept-is, w.if-kept.true) (search rules)
-            | else-kept w ↦ rw (w.kept-is, w.if-kept.false)
-          ]),
-      rw (add-one, ← (left at), ← c.inventory_cost.ensures.0) (omega (arith, b.invariant.3, c.charge-held.ensures.0)),
+      rw (add-one, ← b.invariant.2, ← (left at), ← c.less-left.ensures) (search (rules, tests)),
+      rw (add-one, ← (left at), ← c.less-left.ensures, ← c.inventory_cost.ensures.0) (omega (arith, b.invariant.3, c.charge-held.ensures.0)),
       omega (arith, b.invariant.4, c.charge-held.ensures.1, before_most at),
     )
 
 -- sales that exceed the stock of one product
-pub returns-then-before-sold : goal.returns-then-before-sold
-returns-then-before-sold c =
+pub returns-then-lt : goal.returns-then-lt
+returns-then-lt c =
     let a = c.args in
     let P = plant_in a.input.plant in
     let v = week_in a.input a.week in
-    let at = (goal.at.returns-then-before-sold c).After-sold-sold in
+    let at = (goal.at.returns-then-lt c).After-sold in
     let short : in_stock_at P v a.self.inventory c.loop-product.product ≡ false = rw (← (sold at), ← (same at)) (search (rules, tests)) in
     let e : sales_in_stock P v a.self ≡ false =
     sym (in_stock_all P v a.self P.products refl) ∙ all_fails _ _ c.loop-product.product (known at) short in

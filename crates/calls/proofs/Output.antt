@@ -3,13 +3,15 @@
 use Prim.Native.Nat.{ℕ, ◌≤◌, ◌<◌}
 use mathlib.Core.Path.{◌≡◌, refl, sym, ap, ◌∙◌}
 use mathlib.Core.Bool.{Bool, true, false}
-use mathlib.Core.List.{List, ◌++◌}
+use mathlib.Core.List.{List, ◌++◌, append-nil}
 use native.Mathlib.Omega.{arith}
 use native.Mathlib.Nat.{zero-add}
 use lib.Dec.{leb}
 use lib.ListN.{length, take, drop, length-append}
 use lib.Seq.{take-append_seam}
 use borrow.Author.Tests.{le-leb, lt-leb, leb-false}
+use Rattle.std.proofs.lemmas.List.{take_all, drop_all}
+use Rattle.std.specs.Result.{MatchResult, IsOkAnd}
 use Rattle.numbers.specs.Number.{store}
 use Rattle.std.specs.Prelude.{Err, Ok}
 use Rattle.sections.specs.declared.Refusal.{Refusal}
@@ -43,6 +45,27 @@ pub refused_as : {a : Answer} {n : Refusal} {out after : List ℕ} {r : Written}
     → (r ≡ written_in a out) × (after ≡ output_after a out)
 unfolding written_in output_after
 refused_as e h = (rw e h.0, rw e h.1)
+
+-- ---- what another call has returned and left, which was lent the output and whose result is handed on
+module _ {a b : Answer} {out lent : List ℕ} where
+  pub result_on : {r s : Written} → s ≡ written_in a lent → b ≡ a → lent ≡ out → r ≡ s → r ≡ written_in b out
+  result_on h e l d = d ∙ (h ∙ (λ u. written_in (sym e u) (l u)))
+
+  pub output_on : {left after : List ℕ} → left ≡ output_after a lent → b ≡ a → lent ≡ out → after ≡ left → after ≡ output_after b out
+  output_on h e l d = d ∙ (h ∙ (λ u. output_after (sym e u) (l u)))
+
+-- a part of the output that is all of it, before the call and after it
+pub part_whole : (n : ℕ) (out : List ℕ) → length out ≤ n → take n out ≡ out
+part_whole n out l = take_all n out l
+
+pub part_left : (n : ℕ) (out left : List ℕ) → length out ≤ n → left ++ drop n out ≡ left
+part_left n out left l = ap (λ (s : List ℕ). left ++ s) (drop_all n out l) ∙ append-nil left
+
+-- a length that is mapped to itself
+pub mapped_same : (r s : Written) → MatchResult s (λ n. IsOkAnd r (λ m. m ≡ n)) (λ n. r ≡ Err n) → r ≡ s
+mapped_same (Ok m) (Ok n) h = ap Ok h
+mapped_same (Err m) (Ok n) h = absurd h
+mapped_same r (Err n) h = h
 
 -- ---- back from what was returned
 lengths : (t : Bool) (n m : ℕ) → length_in t n ≡ Ok m → (t ≡ true) × (n ≡ m)

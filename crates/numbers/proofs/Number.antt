@@ -3,7 +3,7 @@ use Prim.Native.Nat.{ℕ, zero, suc, ◌+◌, ◌*◌, ◌/◌, ◌%◌, ◌^◌
 use mathlib.Core.Path.{◌≡◌, refl, sym, ap, ◌∙◌}
 use mathlib.Core.List.{List, [], ◌∷◌, append-nil}
 use native.Mathlib.Omega.{arith}
-use native.Mathlib.Nat.{add-zero, pow-suc, mul-suc, mul_comm, mul-le-mul_left}
+use native.Mathlib.Nat.{add-zero, zero-add, suc-add, pow-zero, pow-suc, mul-suc, mul_comm, mul-le-mul_left}
 use native.Mathlib.Numerals.{add-one}
 use lib.ListN.{length, get_or, take, drop}
 use lib.Seq.{drop-cons, drop-drop}
@@ -21,6 +21,14 @@ digits_length (suc k) v = ap suc (digits_length k (v / 256))
 pub number_below : (k : ℕ) (s : List ℕ) (at : ℕ) → Bytes s → number_at k s at < 256 ^ k
 number_below zero s at b = omega arith
 number_below (suc k) s at b = rw pow-suc (omega (arith, b at, number_below k s (at + 1) b))
+
+-- a number's low bytes and its high bytes
+pub number_add : (j k : ℕ) (s : List ℕ) (at : ℕ) → number_at (j + k) s at ≡ number_at j s at + 256 ^ j * number_at k s (at + j)
+number_add zero k s at = rw (zero-add k, add-zero, pow-zero) (omega arith)
+number_add (suc j) k s at =
+    let e : at + 1 + j ≡ at + suc j = omega arith in
+    let h = number_add j k s (at + 1) in
+    rw (suc-add, pow-suc, ← e, h) (omega arith)
 
 -- the bytes of a number that was read are the bytes that it was read from
 pub digits_number : (k : ℕ) (s : List ℕ) (at : ℕ) → Bytes s → at + k ≤ length s → digits k (number_at k s at) ≡ part s at k

@@ -3,6 +3,7 @@
 
 ghost use Rattle.std.specs.Prelude.{◌≡◌, ◌+◌, ◌≤◌, ◌<◌, ◌^◌, length};
 ghost use Rattle.numbers.specs.Number.{number_at, digits, store};
+ghost use Rattle.numbers.specs.Signed.{signed_of, unsigned_of};
 
 // The number of k bytes at a place: from the last byte, the greatest, to the first. A loop serves every width, where `from_le_bytes` takes
 // an array of one.
@@ -27,4 +28,20 @@ pub fn write(out: &mut [u8], at: usize, k: usize, v: u64)
         *byte = (left % 256) as u8;
         left /= 256;
     }
+}
+
+// The signed number that a number of 8 bytes stands for.
+#[tactic(auto, using(crate::proofs::TwosComplement::signed_is))]
+pub fn signed(v: u64) -> i64
+    ensures { result ≡ signed_of v }
+{
+    v.cast_signed()
+}
+
+// The number of 8 bytes that stands for a signed number.
+#[tactic(auto, using(crate::proofs::TwosComplement::unsigned_is))]
+pub fn unsigned(z: i64) -> u64
+    ensures { result ≡ unsigned_of z }
+{
+    z.cast_unsigned()
 }

@@ -1,2 +1,3 @@
 pub mod Firsts
 pub mod PassedFacts
+pub mod Mapped

@@ -6,6 +6,7 @@ ghost use Rattle.plan_file.specs.Form.{plan_form};
 
 use crate::{ArcSums, ChangeoverTable, PROFIT, PairTable, ProductTable, SALES, plan_form};
 use contents::cell_in;
+use numbers::signed;
 use sections::{
     Refusal, Shape, copy_section, customer_sum, index2, pair_number, pair_row, square_place, volume,
 };
@@ -207,7 +208,7 @@ impl<'a> PlanFile<'a> {
     pub fn profit(self) -> i64
         ensures { result ≡ (plan_in self.entry).profit }
     {
-        cell_in(self.bytes, PROFIT, 8, 0).cast_signed()
+        signed(cell_in(self.bytes, PROFIT, 8, 0))
     }
 }
 

@@ -20,7 +20,7 @@ use calls::FileWriter;
 use contents::BodyLengths;
 use costs::opening_mounted;
 use machine::{RunInput, opening_state};
-use numbers::write;
+use numbers::{unsigned, write};
 use plan_file::{layout, plan_length};
 use plant_file::PlantFile;
 use sections::{Refusal, Shape, area};
@@ -315,7 +315,7 @@ impl FileWriter for RanFiles<'_> {
             plan_file::SALES => self.slots.write_sales(out),
             plan_file::INVENTORY => self.write_inventory(out),
             plan_file::BACKLOG => self.write_backlog(out),
-            plan_file::PROFIT => write(out, 0, 8, self.profit.0.cast_unsigned()),
+            plan_file::PROFIT => write(out, 0, 8, unsigned(self.profit.0)),
             _ => self.write_line(out, place),
         }
     }

@@ -175,7 +175,10 @@ pub fn copy_section(out: &mut [u8], s: &[u8], i: usize, k: usize, m: usize)
 {
     let e = entry_in(s, i);
     let size = k * m;
-    out[..size].copy_from_slice(&s[e.offset..e.offset + size]);
+    // Byte by byte: `copy_from_slice` takes C's `memmove`, which the archive asks of nobody otherwise.
+    for j in 0..size {
+        out[j] = s[e.offset + j];
+    }
 }
 
 // Whether the diagonal of section i, a table of n by n numbers of k bytes, is 0.

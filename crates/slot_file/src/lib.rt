@@ -151,12 +151,16 @@ fn slot_place(s: &[u8], j: usize) -> usize
     e.offset + SLOT_BYTES * j
 }
 
-// Whether each slot's product is below n.
+// Whether each slot's product is below n. All are tried: a loop that ends early is not compiled to tests of several slots at a time.
 fn has_products(s: &[u8], total: usize, n: u64) -> bool
     requires { (contents_length slot_kind ≤ length s.now) × (offset s.now 1 + 3 * total ≤ length s.now) }
     ensures { result ≡ all_below total (λ j. ltb (slot_at s.now j).product n) }
 {
-    (0..total).all(|j| u64::from(s[slot_place(s, j)]) < n)
+    let mut known = true;
+    for j in 0..total {
+        known &= u64::from(s[slot_place(s, j)]) < n;
+    }
+    known
 }
 
 // Row 24.

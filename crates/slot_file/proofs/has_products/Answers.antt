@@ -1,14 +1,13 @@
--- `slot_file::has_products` meets its contract. Assumes nothing.
-use borrow.Author.Rules.{rules}
+-- `slot_file::has_products` meets its contract: the loop has tried the slots below `j`. Assumes nothing.
+use Rattle.std.proofs.Common.{arith, rules}
 use borrow.Author.Tests.{tests}
-use mathlib.Core.Path.{refl}
-use lib.Dec.{ltb}
-use Rattle.mathematics.proofs.Ranges.{all_in_range}
+use native.Mathlib.Numerals.{add-one}
 use Rattle.slot_file.specs.Slots.{slot_at}
 use Rattle.slot_file.proofs.has_products.Goals as goal
 
-pub returns : goal.returns
+pub loop-j-preserved : goal.loop-j-preserved
 unfolding slot_at
-returns c =
-    let a = c.args in
-    all_in_range (λ j. ltb (slot_at a.s.now j).product a.n) a.total _ _ _ c.all.ensures.ran refl (λ x b q k. search (rules, tests))
+loop-j-preserved c = rw add-one (search (rules, tests))
+
+pub returns : goal.returns
+returns c = search rules

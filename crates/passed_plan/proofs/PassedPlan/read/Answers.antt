@@ -11,6 +11,7 @@ use Rattle.plan_file.specs.Accepted.{plan_in}
 use Rattle.rules.specs.Verdict.{verdict_of}
 use Rattle.passed_plan.specs.Judgement.{judgement_of, plan_judgement}
 use Rattle.passed_plan.proofs.PassedFacts.{passing_judged}
+use Rattle.passed_plan.proofs.Mapped.{mapped_ok, mapped_err}
 use Rattle.passed_plan.proofs.PassedPlan.read.Goals as goal
 use Rattle.passed_plan.proofs.PassedPlan.read.Goals.{In_ok-plan}
 
@@ -35,11 +36,12 @@ invariant_of-result c =
     let d = (goal.at.invariant_of-result c).In_ok-plan in
     let x = c.in_ok-plant.plant in
     let y = c.in_ok-plan.plan in
+    let judged : c.judge.result ≡ Ok c.in_ok-profit.profit = search (rules, mapped_ok) in
     record {
       passes = passing_judged x.bytes.now y.bytes.now x.shape c.in_ok-profit.profit (record {
         plant_good = x.accepted;
         plan_good = plan_good d;
-        passes = same_verdict d ∙ (sym c.judge.ensures ∙ c.in_ok-profit.was);
+        passes = same_verdict d ∙ (sym c.judge.ensures ∙ judged);
       });
     }
 
@@ -61,5 +63,6 @@ returns-in_err-profit c =
     let d = (goal.at.returns-in_err-profit c).In_ok-plan in
     let x = c.in_ok-plant.plant in
     let e : c.from_residual-in_err-profit.result ≡ Err c.in_err-profit.field-0.0 = search rules in
-    let broken = same_verdict d ∙ (sym c.judge.ensures ∙ c.in_err-profit.was) in
+    let judged : c.judge.result ≡ Err c.in_err-profit.field-0.0 = search (rules, mapped_err) in
+    let broken = same_verdict d ∙ (sym c.judge.ensures ∙ judged) in
     rw (e, judged_bytes d, x.accepted, plan_good d, broken) refl

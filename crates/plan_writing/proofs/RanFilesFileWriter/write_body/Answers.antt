@@ -9,7 +9,6 @@ use Prim.Native.Nat.{ℕ}
 use lib.ListN.{get_or}
 use Rattle.numbers.specs.Number.{digits, store}
 use Rattle.numbers.specs.Signed.{unsigned_of}
-use Rattle.numbers.proofs.TwosComplement.{unsigned_is}
 use Rattle.plan_file.specs.File.{plan_bodies}
 use Rattle.model.specs.RunTables.{run_tables}
 use Rattle.plan_writing.specs.declared.RanFiles.{RanFiles}
@@ -27,6 +26,5 @@ pub returns-in-11 : goal.returns-in-11
 unfolding plan_bodies
 returns-in-11 c =
     let profit = c.args.self.profit.0 in
-    let number = c.cast_unsigned.ensures
-    ∙ (ap (of_z w64) (to_z-of_z w64 profit (record { sfits = search rules })) ∙ (sym (unsigned_is profit) ∙ ap unsigned_of c.args.self.earned)) in
+    let number = c.unsigned.ensures ∙ ap unsigned_of (to_z-of_z w64 profit (record { sfits = search rules }) ∙ c.args.self.earned) in
     c.write.ensures ∙ ap (store c.args.out.now 0) (ap (digits 8) number ∙ ap (body c.args.self) (sym c.in-11.is))

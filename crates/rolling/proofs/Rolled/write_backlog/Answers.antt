@@ -2,12 +2,18 @@
 use borrow.Author.Rules.{rules}
 use native.Mathlib.Omega.{arith}
 use mathlib.Core.Path.{◌≡◌, sym, ap, ◌∙◌}
-use Prim.Native.Nat.{ℕ, ◌*◌, ◌/◌, ◌%◌, ◌-◌}
-use Rattle.numbers.specs.Number.{digits, store}
+use mathlib.Core.List.{List}
+use Prim.Native.Nat.{ℕ, ◌+◌, ◌*◌, ◌/◌, ◌%◌, ◌-◌}
+use Rattle.numbers.specs.Number.{digits, encode, store}
 use Rattle.numbers.proofs.Number.{store_more}
 use Rattle.sections.proofs.Tables.{grid_encode}
 use Rattle.plan_file.specs.Accepted.{plan_in}
 use Rattle.rolling.proofs.Rolled.write_backlog.Goals as goal
+
+-- a number more is stored, whichever call gave it
+stored : (owed : ℕ → ℕ) (pair value : ℕ) (first before after : List ℕ) → after ≡ store before (4 * pair) (digits 4 value)
+    → before ≡ store first 0 (encode 4 pair owed) → value ≡ owed pair → after ≡ store first 0 (encode 4 (pair + 1) owed)
+stored owed pair value first before after w h v = w ∙ ((λ u. store (h u) (4 * pair) (digits 4 (v u))) ∙ store_more 4 pair owed first)
 
 pub loop-pair-preserved : goal.loop-pair-preserved
 loop-pair-preserved c =
@@ -16,8 +22,7 @@ loop-pair-preserved c =
     let n = r.files.plant.shape.products in
     let owed : ℕ → ℕ = λ j. (plan_in r.files.plan).backlog (j / n) (j % n) (r.weeks - 1) in (
       search rules,
-      c.write.ensures
-          ∙ ((λ u. store (b.invariant.1 u) (4 * b.pair) (digits 4 (c.backlog.ensures u))) ∙ store_more 4 b.pair owed c.args.out.now),
+      stored owed b.pair _ c.args.out.now _ _ c.write.ensures b.invariant.1 (search rules),
     )
 
 pub returns : goal.returns

@@ -114,7 +114,8 @@ pub fn read_file(rt: &impl Files, path: &[u8], buf: &mut [u8]) -> usize
     0
 }
 
-// The same of the file that argument i names.
+// The same of the file that argument i names. Not in its caller, which would keep the room of the name.
+#[inline(never)]
 pub fn read_named(rt: &(impl Env + Files), i: usize, buf: &mut [u8]) -> usize
     ensures { IsPrefixLen result buf.new }
 {

@@ -5,6 +5,8 @@
 use files::{FileBytes, argument_count};
 use report::report_text;
 
+// Not in `main`, whose room the usage would need too.
+#[inline(never)]
 fn print_report(rt: &impl Print, plant: &FileBytes, plan: &FileBytes) {
     let mut text = [0; 16384];
     let n = report_text(plant.as_slice(), plan.as_slice(), &mut text);

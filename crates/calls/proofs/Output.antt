@@ -54,7 +54,8 @@ module _ {a b : Answer} {out lent : List ℕ} where
   pub output_on : {left after : List ℕ} → left ≡ output_after a lent → b ≡ a → lent ≡ out → after ≡ left → after ≡ output_after b out
   output_on h e l d = d ∙ (h ∙ (λ u. output_after (sym e u) (l u)))
 
--- a part of the output that is all of it, before the call and after it
+-- A writer that is lent a part of the output, and a length that is mapped, as a caller may write it: the search takes these where a call is written so.
+-- a part that is all of the output, before the call and after it
 pub part_whole : (n : ℕ) (out : List ℕ) → length out ≤ n → take n out ≡ out
 part_whole n out l = take_all n out l
 

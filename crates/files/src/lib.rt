@@ -27,7 +27,7 @@ pub type Argument = Bytes<4096>;
 pub type FileBytes = Bytes<65536>;
 
 impl<const N: usize> Bytes<N> {
-    // None, with room for N. Made where it stands, since a copy of the room costs as much as reading a file does.
+    // No bytes yet, with room for N. Made where it stands, since a copy of the room costs as much as reading a file does.
     #[inline(always)]
     pub fn empty() -> Bytes<N>
         ensures { take result.count result.items ≡ [] }
@@ -114,7 +114,7 @@ pub fn read_file(rt: &impl Files, path: &[u8], buf: &mut [u8]) -> usize
     0
 }
 
-// The same of the file that argument i names. Not in its caller, which would keep the room of the name.
+// The same of the file that argument i names. Not inlined: its caller would hold the room of the name too.
 #[inline(never)]
 pub fn read_named(rt: &(impl Env + Files), i: usize, buf: &mut [u8]) -> usize
     ensures { IsPrefixLen result buf.new }

@@ -1,5 +1,5 @@
 -- The product of a slot: the first whose place is the slot's number and one. Assumes nothing.
-use Rattle.std.proofs.Common.{ℕ, zero, suc, ◌+◌, ◌≤◌, Bool, true, false, List, ◌≡◌, refl, ap, ◌∙◌, arith}
+use Rattle.std.proofs.Common.{ℕ, zero, suc, ◌+◌, ◌≤◌, ◌<◌, Bool, true, false, List, ◌≡◌, refl, ap, ◌∙◌, arith}
 use Rattle.std.specs.List.{range_with_len, position_or_len, FoldsTo}
 use Rattle.std.specs.Fn.{Called}
 use Rattle.std.specs.Iterator.{YieldsThen}
@@ -11,9 +11,9 @@ use Rattle.std.proofs.lemmas.Iterator.{YieldsList-from_range}
 use Rattle.std.proofs.lemmas.Iterator.Search.{position_from_yields_List}
 use Rattle.std.proofs.lemmas.List.FromFn.{length-range_with_len}
 use denote.Param.Members.{Mut}
-use borrow.Author.Tests.{tests}
+use borrow.Author.Tests.{tests, eq-eqb, ne_eqb}
 use mathlib.Core.Bool.{cond, not}
-use lib.Dec.{ltb}
+use lib.Dec.{eqb, ltb}
 use Rattle.mathematics.specs.Below.{first_below}
 
 swap : (b : Bool) (m : ℕ) → cond (not b) (1 + m) zero ≡ cond b zero (suc m)
@@ -54,3 +54,11 @@ first_in_range p n u f r d e k =
     let len = length-range_with_len 0 n in
     ap (λ (o : Option ℕ). unwrap_or o n) (position_from_yields_List p u f r d (YieldsList-from_range 0 n n e (omega arith)) k)
     ∙ ((λ i. unwrap_or (cond (ltb (at i) (len i)) (Some (at i)) None) n) ∙ first_or n (first_below n p) _ refl (first_most n p))
+
+-- the first number of a table that has a value
+pub first_is : (n : ℕ) (f : ℕ → ℕ) (v i : ℕ) → i < n → ((j : ℕ) → j < i → f j ≡ v → ⊥) → f i ≡ v
+    → i ≡ first_below n (λ j. eqb (f j) v)
+first_is zero f v i l h e = absurd (omega arith)
+first_is (suc n) f v zero l h e = rw (eq-eqb (f 0) v e)
+first_is (suc n) f v (suc i) l h e =
+    rw (ne_eqb (f 0) v (h 0 (omega arith))) (ap suc (first_is n (λ j. f (suc j)) v i (omega arith) (λ j m. h (suc j) (omega arith)) e))

@@ -1,4 +1,4 @@
--- A result whose value or refusal is mapped to itself. Assumes nothing.
+-- A result whose value or refusal is mapped to itself, as a caller may write it: the search takes these where a call is written so. Assumes nothing.
 use mathlib.Core.Path.{◌≡◌, sym, ap, ◌∙◌}
 use Rattle.std.specs.Prelude.{Result, Ok, Err}
 use Rattle.std.specs.Result.{MatchResult, IsErrAnd}

@@ -5,7 +5,7 @@
 use files::{FileBytes, argument_count};
 use report::report_text;
 
-// Not in `main`, whose room the usage would need too.
+// Not inlined: `main` would hold the room of the text where it prints its usage, too.
 #[inline(never)]
 fn print_report(rt: &impl Print, plant: &FileBytes, plan: &FileBytes) {
     let mut text = [0; 16384];

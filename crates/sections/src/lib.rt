@@ -175,7 +175,7 @@ pub fn copy_section(out: &mut [u8], s: &[u8], i: usize, k: usize, m: usize)
 {
     let e = entry_in(s, i);
     let size = k * m;
-    // Byte by byte: `copy_from_slice` takes C's `memmove`, which the archive asks of nobody otherwise.
+    // Byte by byte: `copy_from_slice` calls C's `memmove`, which nothing else in the archive needs.
     for j in 0..size {
         out[j] = s[e.offset + j];
     }

@@ -25,5 +25,4 @@ loop-i-preserved c =
     let n : a.at + i ≡ a.at + (i - 1) + 1 = omega arith in
     let rest = rw n at c.loop-i.invariant.0 in
     let byte = c.type_inv.s (a.at + (i - 1)) in
-    let before = small (goal.at.loop-i-preserved c).In-loop-i in
-    (rw m (omega (arith, rest, before)), rw (m, pow-suc) (omega (arith, byte, before)))
+    (rw m (omega (arith, rest)), rw (m, pow-suc) (omega (arith, byte)))
